@@ -8,6 +8,7 @@
 
 mod expr;
 mod memory;
+mod names;
 mod object;
 mod program;
 mod span;
@@ -18,6 +19,7 @@ mod value;
 
 pub use expr::{BinOp, Expr, Form, Use};
 pub use memory::Memory;
+pub use names::Names;
 pub use object::{Obj, Slots};
 pub use program::{Class, Field, Flags, Local, Method, Program};
 pub use span::{NameId, Span};
