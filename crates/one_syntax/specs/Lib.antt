@@ -1,0 +1,3 @@
+pub mod Trees
+pub mod Height
+pub mod Grammar
