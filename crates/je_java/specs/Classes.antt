@@ -1,8 +1,6 @@
 -- What a program's numbers stand for: classes, fields and methods (JLS 8), and the slots of a class's instances.
-use Rattle.std.specs.Prelude.{ℕ, ◌-◌, List, ◌++◌, length, map, filter, count_by, take, drop, Option, Some, None, slice_get, Bool, true, false, nat_eq, if◌then◌else◌}
+use Rattle.std.specs.Prelude.{ℕ, List, ◌++◌, length, map, filter, count_by, take, drop, Option, Some, None, slice_get, Bool, true, false, nat_eq, if◌then◌else◌}
 use Rattle.je_core.specs.Defaults.{default_of}
-use Rattle.je_core.specs.declared.object.Obj.{Obj}
-use Rattle.je_core.specs.declared.object.Obj.TheVariants.{Instance}
 use Rattle.je_core.specs.declared.program.Class.{Class}
 use Rattle.je_core.specs.declared.program.Field.{Field}
 use Rattle.je_core.specs.declared.program.Local.{Local}

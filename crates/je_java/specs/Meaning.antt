@@ -18,7 +18,7 @@ use Rattle.je_core.specs.declared.stmt.Stmt.{Stmt}
 use Rattle.je_core.specs.declared.stmt.StmtForm.{StmtForm, out-StmtForm}
 use Rattle.je_core.specs.declared.stmt.StmtForm.TheOpen.{StmtForm-F, Block, Do, Return}
 use Rattle.je_java.specs.Classes.{method_at, dispatched, locals_for}
-use Rattle.je_java.specs.Steps.{State, Answer, Done, Thrown, Run, Exits, Computation, Nothing, ret, bind, seq, yields, ◌>>=◌, ◌>>◌, wrong, spent, leave, need, framed, tick, get_this, get_local, put_local, get_class, make, deref, binary, read_field, write_field}
+use Rattle.je_java.specs.Steps.{State, Answer, Done, Thrown, Exits, Computation, Nothing, ret, yields, ◌>>=◌, ◌>>◌, wrong, spent, leave, need, framed, tick, get_this, get_local, put_local, get_class, make, deref, binary, read_field, write_field}
 
 -- a meaning of expressions, and one of statements
 pub record Meanings : Type 0 where

@@ -10,7 +10,7 @@ use Rattle.je_core.specs.declared.program.Program.{Program}
 use Rattle.je_core.specs.declared.types.ClassId.{ClassId}
 use Rattle.je_core.specs.declared.value.ObjId.{ObjId}
 use Rattle.je_core.specs.declared.value.Value.{Value}
-use Rattle.je_core.specs.declared.value.Value.TheVariants.{Bool, Byte, Short, Char, Int, Long, Null, Ref}
+use Rattle.je_core.specs.declared.value.Value.TheVariants.{Int, Null, Ref}
 use Rattle.je_java.specs.World.{class_of, slot_of, with_slot}
 use Rattle.je_java.specs.Classes.{fresh_slots, field_slot}
 
