@@ -1,0 +1,19 @@
+-- Constant expressions of a One (JLS 15.28): literals, and operators on them. No name stands for a constant, since no variable is final.
+use Rattle.std.specs.Prelude.{ℕ, ℤ, pos, Option, Some, None}
+use Rattle.je_core.specs.declared.expr.BinOp.{BinOp}
+use Rattle.je_java.specs.Steps.{operate}
+use Rattle.one_syntax.specs.Trees.{ExprTree, decimal, name, call, brackets, binary}
+
+-- the value of two operands that have values
+abbrev pub folded : BinOp → Option ℤ → Option ℤ → Option ℤ
+folded op (Some x) (Some y) = Some (operate op x y)
+folded op (Some x) None = None
+folded op None y = None
+
+-- the value of a constant expression
+abbrev pub constant_of : ExprTree → Option ℤ
+constant_of (decimal v) = Some (pos v)
+constant_of (name x) = None
+constant_of (call receiver x args) = None
+constant_of (brackets e) = constant_of e
+constant_of (binary op l r) = folded op (constant_of l) (constant_of r)

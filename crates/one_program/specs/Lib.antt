@@ -1,0 +1,4 @@
+pub mod Scope
+pub mod Constants
+pub mod Conditions
+pub mod Elaboration

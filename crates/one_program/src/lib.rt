@@ -1,0 +1,2 @@
+//! The core program of a One.
+#![tactic(auto)]
