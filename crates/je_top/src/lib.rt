@@ -1,0 +1,24 @@
+//! The top call and what it stands on: files by name, a sink of text, statuses and the command line.
+//!
+//! `Files` and `Sink` are how a program reaches the outside. Contracts see of files what is held (the bytes of each
+//! name, where that is told), a count of faults and the name of the last read that failed; and of a sink the bytes
+//! that it took (where that is told) and a count of faults. `MemFiles` and `MemSink` tell all. `RealFiles` and
+//! `RealSink`, over the system's files and standard output, tell nothing: they are the trusted edge.
+#![tactic(auto)]
+
+mod files;
+mod in_memory;
+mod real;
+mod sink;
+mod status;
+mod words;
+
+pub use files::{FileFault, Files};
+pub use in_memory::{MemFiles, MemSink};
+pub use real::{RealFiles, RealSink};
+pub use sink::{Sink, SinkFault};
+pub use status::Status;
+pub use words::file_to_run;
+
+/// The most bytes that a file may have to be read whole.
+pub const FILE_LIMIT: usize = 1_048_576;
