@@ -18,7 +18,7 @@ use Rattle.je_core.specs.declared.stmt.Stmt.{Stmt}
 use Rattle.je_core.specs.declared.stmt.StmtForm.{StmtForm, out-StmtForm}
 use Rattle.je_core.specs.declared.stmt.StmtForm.TheOpen.{StmtForm-F, Block, Do, Return}
 use Rattle.je_java.specs.Classes.{method_at, dispatched, locals_for}
-use Rattle.je_java.specs.Steps.{State, Answer, Done, Thrown, Exits, Computation, Nothing, ret, yields, ◌>>=◌, ◌>>◌, wrong, spent, leave, need, framed, tick, get_this, get_local, put_local, get_class, make, deref, binary, read_field, write_field}
+use Rattle.je_java.specs.Steps.{State, Answer, Done, Thrown, Exits, Computation, Nothing, ret, yields, ◌>>=◌, ◌>>◌, wrong, spent, leave, need, framed, tick, get_this, get_local, put_local, get_class, constant, make, deref, binary, read_field, write_field}
 
 -- a meaning of expressions, and one of statements
 pub record Meanings : Type 0 where
@@ -138,7 +138,7 @@ assign_to program m _ value = wrong
 
 -- an expression, by its form
 abbrev pub eval_form : Program → Meanings → Form-F Form Expr → Computation Value
-eval_form program m (Const value uses) = ret value
+eval_form program m (Const value uses) = constant value
 eval_form program m (Local local) = get_local local
 eval_form program m This = get_this
 eval_form program m (Field object class field) = do

@@ -158,6 +158,11 @@ new_object object = λ go exits s. go (record { 0 = length s.objects }) (with_ob
 
 -- steps made of these
 
+-- a constant is no reference (JLS 15.28)
+unfoldable pub constant : Value → Computation Value
+constant (Ref object) = wrong
+constant value = ret value
+
 -- an instance of a class with its slots at their defaults, which are paid for before it is made
 unfoldable pub make : Program → ClassId → Computation ObjId
 make program class = do
