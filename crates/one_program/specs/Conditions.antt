@@ -1,5 +1,5 @@
--- The conditions of a One beside its grammar: which names may stand where (JLS 6, 8.2 to 8.4, 14.4, 15.12).
-use Rattle.std.specs.Prelude.{◌≡◌, ℕ, ◌+◌, Bool, true, false, List, [], ◌∷◌, map, codes, Option, Some, None, IsSome, unwrap_or, slice_get, ◌⊎◌}
+-- The conditions of a One beside its grammar: which names may stand where (JLS 6, 8.2 to 8.4, 14.4, 15.12), and which decimals are ints (JLS 3.10.1).
+use Rattle.std.specs.Prelude.{◌≡◌, ℕ, ◌+◌, ◌≤◌, Bool, true, false, List, [], ◌∷◌, map, codes, Option, Some, None, IsSome, unwrap_or, slice_get, ◌⊎◌}
 use Rattle.std.specs.List.{list_any}
 use Rattle.std.specs.Str.{bytes_eq}
 use Rattle.je_core.specs.declared.span.NameId.{NameId}
@@ -43,9 +43,13 @@ NamesMethod scope None x arity = (number : ℕ) × ((is_static : Bool) × (IsMet
 -- behind a point, it is an instance method
 NamesMethod scope (Some receiver) x arity = IsObjectName scope receiver × ((number : ℕ) × IsMethodOf scope x number false arity)
 
+-- the greatest int (JLS 3.10.1)
+abbrev pub greatest_int : ℕ
+greatest_int = 2147483647
+
 abbrev mutual
   pub ExprFits : Scope → ExprTree → Type 0
-  ExprFits scope (decimal v) = Unit {0}
+  ExprFits scope (decimal v) = v ≤ greatest_int
   ExprFits scope (name x) = IsIntName scope x
   ExprFits scope (call receiver x args) = NamesMethod scope receiver x (count args) × ArgsFit scope args
   ExprFits scope (brackets e) = ExprFits scope e
