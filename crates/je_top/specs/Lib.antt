@@ -4,3 +4,6 @@ pub mod Sink
 pub mod InMemory
 pub mod Status
 pub mod Words
+pub mod Texts
+pub mod One
+pub mod Outcome

@@ -8,9 +8,15 @@
 
 mod files;
 mod in_memory;
+mod one;
+mod outcome;
 mod real;
 mod sink;
 mod status;
+#[cfg(test)]
+mod tests;
+mod texts;
+mod top;
 mod words;
 
 pub use files::{FileFault, Files};
@@ -18,7 +24,7 @@ pub use in_memory::{MemFiles, MemSink};
 pub use real::{RealFiles, RealSink};
 pub use sink::{Sink, SinkFault};
 pub use status::Status;
-pub use words::file_to_run;
+pub use top::joee;
 
 /// The most bytes that a file may have to be read whole.
 pub const FILE_LIMIT: usize = 1_048_576;
