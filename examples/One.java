@@ -1,0 +1,1 @@
+class One { static int main() { return 1 + 2; } }
