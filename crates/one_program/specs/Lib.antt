@@ -2,3 +2,4 @@ pub mod Scope
 pub mod Constants
 pub mod Conditions
 pub mod Elaboration
+pub mod Nodes

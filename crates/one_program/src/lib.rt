@@ -1,2 +1,4 @@
 //! The core program of a One.
 #![tactic(auto)]
+
+mod nodes;
