@@ -5,16 +5,8 @@ use Rattle.std.specs.Str.{bytes_eq}
 use Rattle.je_core.specs.declared.span.NameId.{NameId}
 use Rattle.je_core.specs.Names.{text_of}
 use Rattle.one_syntax.specs.Trees.{ExprTree, decimal, name, call, brackets, binary, ExprTrees, none, more, StatementTree, declare, make, assign, perform, MemberTree, field, method, OneTree}
+pub use Rattle.one_program.specs.Names.{IsNot, AreDistinct}
 use Rattle.one_program.specs.Scope.{Scope, Head, Members, object, place_of, local_of, field_of, method_of, members_of, fields_of, scope_of, after, inside, names_of, head_names}
-
--- the name is none of these
-abbrev pub IsNot : NameId → List NameId → Type 0
-IsNot x names = place_of x names ≡ None
-
--- no name stands twice
-abbrev pub AreDistinct : List NameId → Type 0
-AreDistinct [] = Unit {0}
-AreDistinct (x ∷ xs) = IsNot x xs × AreDistinct xs
 
 -- a simple name that stands for an int: a local that holds one, or in an instance method a field
 pub record IsIntName (scope : Scope) (x : NameId) : Type 0 where

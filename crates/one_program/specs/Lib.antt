@@ -1,5 +1,7 @@
+pub mod Names
 pub mod Scope
 pub mod Constants
 pub mod Conditions
 pub mod Elaboration
 pub mod Nodes
+pub mod Seen

@@ -1,21 +1,12 @@
 -- What a name means at a place of a One (JLS 6.3, 6.4.1, 6.5): the class's members, and the locals declared so far.
 use Rattle.std.specs.Prelude.{◌≡◌, ℕ, suc, Bool, true, false, nat_eq, List, [], ◌∷◌, ◌++◌, length, map, Option, Some, None, option_map, if◌then◌else◌}
 use Rattle.je_core.specs.declared.span.NameId.{NameId}
+pub use Rattle.one_program.specs.declared.scope.Head.{Head}
+pub use Rattle.one_program.specs.declared.scope.Sort.{Sort}
+pub use Rattle.one_program.specs.declared.scope.Sort.TheVariants.{Int as int, Object as object}
+pub use Rattle.one_program.specs.declared.scope.Variable.{Variable}
+pub use Rattle.one_program.specs.Names.{same_name, place_of}
 use Rattle.one_syntax.specs.Trees.{ExprTrees, none, more, StatementTree, declare, make, assign, perform, MemberTree, field, method, OneTree}
-
-abbrev pub same_name : NameId → NameId → Bool
-same_name x y = nat_eq x.0 y.0
-
--- the place of a name among names, the first where it stands
-abbrev pub place_of : NameId → List NameId → Option ℕ
-place_of x [] = None
-place_of x (y ∷ ys) = if same_name x y then Some 0 else option_map suc (place_of x ys)
-
--- what a method's head says: its name, whether it is static, and how many parameters it has
-pub record Head : Type 0 where
-  pub name : NameId
-  pub is_static : Bool
-  pub arity : ℕ
 
 -- the class's name, the names of its fields, and the heads of its methods, each in order
 pub record Members : Type 0 where
@@ -35,15 +26,6 @@ heads_of (method is_static name params body result ∷ members) = record { name 
 
 abbrev pub members_of : OneTree → Members
 members_of one = record { class = one.name; fields = fields_of one.members; methods = heads_of one.members }
-
--- a local holds an int, or an object of the class
-pub data Sort : Type 0 where
-  int : Sort
-  object : Sort
-
-pub record Variable : Type 0 where
-  pub name : NameId
-  pub sort : Sort
 
 -- what is in scope at a place of a method
 pub record Scope : Type 0 where

@@ -1,4 +1,6 @@
 //! The core program of a One.
 #![tactic(auto)]
 
+mod names;
 mod nodes;
+mod scope;
