@@ -1,3 +1,5 @@
 pub mod Trees
 pub mod Height
 pub mod Grammar
+pub mod Reading
+pub mod Views

@@ -69,3 +69,7 @@ view_member (member.Method s f params body e) = method s f params.items (map vie
 
 abbrev pub view_one : One → OneTree
 view_one one = record { name = one.name; members = map view_member one.members.items }
+
+abbrev pub append : ExprTrees → ExprTrees → ExprTrees
+append none es = es
+append (more d ds) es = more d (append ds es)

@@ -1,0 +1,40 @@
+-- What the parser's functions return, without where it lies in memory.
+use Rattle.std.specs.Prelude.{◌≡◌, ℕ, suc, max, ◌≤◌, ◌<◌, List, length, Option, Some, None, IfSome}
+use denote.Ref.{Bor}
+use Rattle.je_core.specs.declared.expr.BinOp.{BinOp}
+use Rattle.one_tokens.specs.declared.token.Token.{Token}
+use Rattle.one_syntax.specs.declared.expr.Found.{Found}
+use Rattle.one_syntax.specs.declared.expr.FoundArgs.{FoundArgs}
+use Rattle.one_syntax.specs.declared.expr.FoundCall.{FoundCall}
+use Rattle.one_syntax.specs.Trees.{ExprTree, ExprTrees, call, view_expr, view_exprs}
+use Rattle.one_syntax.specs.Height.{expr_height, args_height}
+use Rattle.one_syntax.specs.Reading.{Read, Parts}
+
+abbrev pub seen : Option Found → Read ExprTree
+seen None = None
+seen (Some x) = Some (view_expr x.tree, x.rest.now)
+
+abbrev pub seen_args : Option FoundArgs → Read ExprTrees
+seen_args None = None
+seen_args (Some x) = Some (view_exprs x.list.items, x.rest.now)
+
+abbrev pub seen_call : Option FoundCall → Read Parts
+seen_call None = None
+seen_call (Some x) = Some ((x.receiver, x.method, view_exprs x.args.items), x.rest.now)
+
+abbrev pub IsHeight : Option Found → Type 0
+IsHeight o = IfSome o (λ x. x.height ≡ expr_height (view_expr x.tree))
+
+abbrev pub seen_operator : Option (BinOp × Bor (List Token)) → Read BinOp
+seen_operator None = None
+seen_operator (Some x) = Some (x.0, x.1.now)
+
+-- the height is right and within the limit, and tokens were used
+abbrev pub Fits : ℕ → List Token → Option Found → Type 0
+Fits limit ts o = IfSome o (λ x. (x.height ≡ expr_height (view_expr x.tree)) × (x.height ≤ limit) × (length x.rest.now < length ts))
+
+abbrev pub ArgsFit : ℕ → List Token → Option FoundArgs → Type 0
+ArgsFit limit ts o = IfSome o (λ x. (x.height ≡ args_height (view_exprs x.list.items)) × (x.height ≤ limit) × (length x.rest.now < length ts))
+
+abbrev pub CallFits : ℕ → List Token → Option FoundCall → Type 0
+CallFits limit ts o = IfSome o (λ x. (x.height ≡ expr_height (call x.receiver x.method (view_exprs x.args.items))) × (x.height ≤ limit) × (length x.rest.now < length ts))
