@@ -1,0 +1,4 @@
+mod Lists
+mod Calls
+mod TwoWorlds
+mod OneWorld
