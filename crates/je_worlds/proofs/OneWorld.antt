@@ -14,7 +14,8 @@ use Rattle.je_java.specs.Steps.{Public}
 use Rattle.je_java.specs.Meaning.{call}
 use Rattle.je_java.proofs.Related.{Parts, Laws, nil, cons, OptionRel, none, some, ValueRel, bool, byte, short, char, int, long, null, ref, Values}
 use Rattle.je_worlds.specs.Reach.{reference, Reach, root, along}
-use Rattle.je_worlds.specs.Changes.{objects_after, ChangesOnlyReached}
+use Rattle.je_worlds.specs.After.{objects_after}
+use Rattle.je_worlds.specs.Changes.{ChangesOnlyReached}
 use Rattle.je_worlds.proofs.Lists.{slice_get-append_left, length-with_slot, slice_get-with_slot_other, slot_of-with_slot_cases, slot_of-push_cases}
 use Rattle.je_worlds.proofs.Calls.{Ends, call-related}
 

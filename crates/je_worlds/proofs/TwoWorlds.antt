@@ -17,23 +17,9 @@ use Rattle.je_java.specs.Meaning.{call}
 use Rattle.je_java.proofs.Related.{Parts, Laws, nil, cons, OptionRel, ValueRel, bool, byte, short, char, int, long, null, ref, StateRel, Values, get-both, set-both}
 use Rattle.je_worlds.specs.Agree.{ValueMatch, equal, paired, ObjectMatch, instance, Matched, Agree}
 use Rattle.je_worlds.specs.Same.{Grown, old, new, SameObjects, SameState, Same, done, thrown, spent, wrong}
+use Rattle.je_worlds.proofs.Matches.{values-map, object-map, matched-map}
 use Rattle.je_worlds.proofs.Lists.{slice_get-append_left, slice_get-push, length-with_slot, slice_get-with_slot_same, slice_get-with_slot_other}
 use Rattle.je_worlds.proofs.Calls.{Ends, call-related}
-
--- matches by more pairs
-
-value-map : {P Q : ℕ → ℕ → Type 0} → ((a b : ℕ) → P a b → Q a b) → {v w : Value} → ValueMatch P v w → ValueMatch Q v w
-value-map h (equal e) = equal e
-value-map h (paired p) = paired (h _ _ p)
-
-values-map : {P Q : ℕ → ℕ → Type 0} → ((a b : ℕ) → P a b → Q a b) → (vs ws : List Value) → AllZip (ValueMatch P) vs ws → AllZip (ValueMatch Q) vs ws
-values-map h [] [] z = tt
-values-map h [] (w ∷ ws) z = absurd z
-values-map h (v ∷ vs) [] z = absurd z
-values-map h (v ∷ vs) (w ∷ ws) z = (value-map h z.0, values-map h vs ws z.1)
-
-object-map : {P Q : ℕ → ℕ → Type 0} → ((a b : ℕ) → P a b → Q a b) → {o o' : Obj} → ObjectMatch P o o' → ObjectMatch Q o o'
-object-map h (instance z) = instance (values-map h _ _ z)
 
 -- what two runs begin with: a one-to-one renaming of some objects of two worlds of n and n' objects
 module _ (P : ℕ → ℕ → Type 0) (n n' : ℕ) where
@@ -102,13 +88,13 @@ module _ (P : ℕ → ℕ → Type 0) (n n' : ℕ) where
   same-state st = record { objects = st.objects; units = ap (λ (p : Public). p.units) st.public; begun = ap (λ (p : Public). p.begun) st.public }
 
   module _ (O : OneToOne) where
-    pair-forth : {k : ℕ} (a b c : ℕ) → Pairs k a b → Pairs k a c → b ≡ c
+    pub pair-forth : {k : ℕ} (a b c : ℕ) → Pairs k a b → Pairs k a c → b ≡ c
     pair-forth a b c (old p) (old q) = O.forth a b c p q
     pair-forth a b c (old p) (new i h e e') = absurd (omega (arith, O.below a b p))
     pair-forth a b c (new i h e e') (old q) = absurd (omega (arith, O.below a c q))
     pair-forth a b c (new i h e e') (new j h' d d') = omega arith
 
-    pair-back : {k : ℕ} (a b c : ℕ) → Pairs k a c → Pairs k b c → a ≡ b
+    pub pair-back : {k : ℕ} (a b c : ℕ) → Pairs k a c → Pairs k b c → a ≡ b
     pair-back a b c (old p) (old q) = O.back a b c p q
     pair-back a b c (old p) (new i h e e') = absurd (omega (arith, O.below' a c p))
     pair-back a b c (new i h e e') (old q) = absurd (omega (arith, O.below' b c q))
@@ -203,23 +189,23 @@ module _ (P : ℕ → ℕ → Type 0) (n n' : ℕ) where
     same p units class at v w vs ws os ps r z = call-related two-laws two-ends p units class at os ps r (related z.0) (relateds vs ws z.1)
 
 -- two worlds that agree
+pub one-to-one : (P : ℕ → ℕ → Type 0) (os ps : List Obj) (vs ws : List Value) → Agree P os vs ps ws → OneToOne P (length os) (length ps)
+one-to-one P os ps vs ws g = record {
+  forth = g.forth;
+  back = g.back;
+  below = λ a b p. let m = g.matched a b p in slice_get_within os a m.object m.first;
+  below' = λ a b p. let m = g.matched a b p in slice_get_within ps b m.object' m.second;
+}
+
 pub two-worlds : (P : ℕ → ℕ → Type 0) (p : Program) (units : ℕ) (class : ClassId) (at : ℕ) (v w : Value) (vs ws : List Value) (os ps : List Obj) →
     Agree P os (v ∷ vs) ps (w ∷ ws) → Same P (length os) (length ps) (call p units class at v vs os) (call p units class at w ws ps)
-two-worlds P p units class at v w vs ws os ps g = same P (length os) (length ps) begin p units class at v w vs ws os ps alike (values-map start (v ∷ vs) (w ∷ ws) g.in_order)
+two-worlds P p units class at v w vs ws os ps g = same P (length os) (length ps) (one-to-one P os ps (v ∷ vs) (w ∷ ws) g) p units class at v w vs ws os ps alike (values-map start (v ∷ vs) (w ∷ ws) g.in_order)
   where
     start : (a b : ℕ) → P a b → Grown P (length os) (length ps) 0 a b
     start a b p = old p
 
-    begin : OneToOne P (length os) (length ps)
-    begin = record {
-      forth = g.forth;
-      back = g.back;
-      below = λ a b p. let m = g.matched a b p in slice_get_within os a m.object m.first;
-      below' = λ a b p. let m = g.matched a b p in slice_get_within ps b m.object' m.second;
-    }
-
     pairs : (a b : ℕ) → Grown P (length os) (length ps) 0 a b → Matched (Grown P (length os) (length ps) 0) os ps a b
-    pairs a b (old p) = let m = g.matched a b p in record { object = m.object; object' = m.object'; first = m.first; second = m.second; match = object-map start m.match }
+    pairs a b (old p) = matched-map start a b (g.matched a b p)
     pairs a b (new i h e e') = absurd (omega arith)
 
     alike : SameObjects P (length os) (length ps) 0 os ps

@@ -1,17 +1,9 @@
 -- The frame of a run, which is what it can't have changed (Reynolds, Separation Logic, LICS 2002): all that its roots
 -- don't reach.
-use Rattle.std.specs.Prelude.{◌≡◌, ℕ, ◌<◌, List, length, slice_get, Option, Some, None}
+use Rattle.std.specs.Prelude.{◌≡◌, ℕ, ◌<◌, List, length, slice_get}
 use Rattle.je_core.specs.declared.object.Obj.{Obj}
 use Rattle.je_core.specs.declared.value.Value.{Value}
-use Rattle.je_java.specs.Steps.{Answer, Done, Thrown, Spent, Wrong}
 use Rattle.je_worlds.specs.Reach.{Reach}
-
--- the objects when a run ended; the end of what no program does that fits its types has none
-abbrev pub objects_after : Answer → Option (List Obj)
-objects_after (Done value state) = Some state.objects
-objects_after (Thrown exception state) = Some state.objects
-objects_after (Spent state) = Some state.objects
-objects_after Wrong = None
 
 -- every earlier object that the roots don't reach is what it was
 abbrev pub ChangesOnlyReached : List Obj → List Value → List Obj → Type 0
