@@ -30,75 +30,75 @@ use Rattle.je_java.specs.Meaning.{java, meanings, call}
 use Rattle.je_java.specs.Opened.{opened}
 
 module _ (ptr : Ptr) (global : Global) where
-  abbrev vec : {X : Type 0} (xs : List X) → length xs < 5 → Vec X Global
+  abbrev pub vec : {X : Type 0} (xs : List X) → length xs < 5 → Vec X Global
   vec xs h = record { ptr = ptr; len = length xs; cap = length xs; alloc = global; items = xs; ok = (refl, omega arith); small = omega arith }
 
-  abbrev none : {X : Type 0} → Vec X Global
+  abbrev pub none : {X : Type 0} → Vec X Global
   none = vec [] (omega arith)
 
-  abbrev one : {X : Type 0} → X → Vec X Global
+  abbrev pub one : {X : Type 0} → X → Vec X Global
   one x = vec (x ∷ []) (omega arith)
 
-  abbrev two : {X : Type 0} → X → X → Vec X Global
+  abbrev pub two : {X : Type 0} → X → X → Vec X Global
   two x y = vec (x ∷ y ∷ []) (omega arith)
 
-  abbrev three : {X : Type 0} → X → X → X → Vec X Global
+  abbrev pub three : {X : Type 0} → X → X → X → Vec X Global
   three x y z = vec (x ∷ y ∷ z ∷ []) (omega arith)
 
-  abbrev nowhere : Span
+  abbrev pub nowhere : Span
   nowhere = record { file = 0; start = 0; end = 0 }
 
-  abbrev int : Ty
+  abbrev pub int : Ty
   int = record { base = IntBase; dims = 0 }
 
-  abbrev void : Ty
+  abbrev pub void : Ty
   void = record { base = VoidBase; dims = 0 }
 
-  abbrev node : Form → Rc Expr Global
+  abbrev pub node : Form → Rc Expr Global
   node form = record { ptr = ptr; value = record { form = form; ty = int; span = nowhere; at = nowhere } }
 
-  abbrev statement : StmtForm → Rc Stmt Global
+  abbrev pub statement : StmtForm → Rc Stmt Global
   statement form = record { ptr = ptr; value = record { form = form; span = nowhere; at = nowhere } }
 
-  abbrev constant : Value → Rc Expr Global
+  abbrev pub constant : Value → Rc Expr Global
   constant value = node (Const value none)
 
   abbrev local : ℕ → Rc Expr Global
   local at = node (Local at)
 
-  abbrev increased : Rc Expr Global → Rc Expr Global
+  abbrev pub increased : Rc Expr Global → Rc Expr Global
   increased e = node (Binary Add e (constant (Int (pos 1))))
 
   -- the class A of each row, with its fields `n` and `m`, and a static field between them
-  abbrev class_a : Ty
+  abbrev pub class_a : Ty
   class_a = record { base = ClassBase (record { 0 = 0 }); dims = 0 }
 
-  abbrev field : Bool → FieldOf
+  abbrev pub field : Bool → FieldOf
   field is_static = record { name = record { 0 = 0 }; span = nowhere; ty = int; is_static = is_static }
 
-  abbrev local_of : Ty → LocalOf
+  abbrev pub local_of : Ty → LocalOf
   local_of ty = record { name = record { 0 = 0 }; ty = ty; is_final = false; span = nowhere }
 
-  abbrev method : Bool → Ty → Vec LocalOf Global → Rc Stmt Global → Method
+  abbrev pub method : Bool → Ty → Vec LocalOf Global → Rc Stmt Global → Method
   method is_static returns locals body = record { name = record { 0 = 0 }; span = nowhere; params = none; returns = returns; flags = record { is_static = is_static }; locals = locals; body = Some body }
 
-  abbrev program : Vec Method Global → Program
+  abbrev pub program : Vec Method Global → Program
   program methods = record { classes = one (record { name = record { 0 = 0 }; span = nowhere; superclass = None; fields = three (field false) (field true) (field false); methods = methods }); texts = none }
 
-  abbrev body : Vec (Rc Stmt Global) Global → Rc Stmt Global
+  abbrev pub body : Vec (Rc Stmt Global) Global → Rc Stmt Global
   body parts = statement (Block none parts)
 
-  abbrev gives : Rc Expr Global → Rc Stmt Global
+  abbrev pub gives : Rc Expr Global → Rc Stmt Global
   gives e = statement (Return (Some e))
 
-  abbrev does : Rc Expr Global → Rc Stmt Global
+  abbrev pub does : Rc Expr Global → Rc Stmt Global
   does e = statement (Do e)
 
   -- a call of the class's first method, without a receiver and with 1,000,000 units
   abbrev run : Vec Method Global → List Value → Answer
   run methods given = call (program methods) 1000000 (record { 0 = 0 }) 0 Null given []
 
-  abbrev after : List Obj → ℕ → ℕ → State
+  abbrev pub after : List Obj → ℕ → ℕ → State
   after objects units begun = record { objects = objects; own = record { this = Null; locals = [] }; public = record { units = units; begun = begun } }
 
   -- int f() { return 1 + 2; }, folded: Block, Return, Const
@@ -125,7 +125,7 @@ module _ (ptr : Ptr) (global : Global) where
   at_default = refl
 
   -- A() {}
-  abbrev constructor : Method
+  abbrev pub constructor : Method
   constructor = method false void none (body none)
 
   -- static A f() { return new A(); }: Block, Return, New, the 2 slots of A, and the constructor's Block

@@ -87,7 +87,11 @@ two-rings = record {
   in_order = (paired (renames 0 2 (fives refl refl)), tt);
 }
 
--- nothing is reached from null
+-- nothing is reached from no roots, or from null
+pub nothing-reaches : (os : List Obj) (a : ℕ) → Reach os [] a → ⊥
+nothing-reaches os a (root place e) = cc
+nothing-reaches os a (along {number = c} slot r e) = nothing-reaches os c r
+
 null-reaches : (os : List Obj) (a : ℕ) → Reach os (Null ∷ []) a → ⊥
 null-reaches os a (root zero e) = cc
 null-reaches os a (root (suc place) e) = cc
@@ -117,7 +121,7 @@ value-equal : {P : ℕ → ℕ → Type 0} {v w : Value} → ValueMatch P v w �
 value-equal (equal e) f = refl
 value-equal (paired p) f = absurd (cc)
 
-links-differ : {P : ℕ → ℕ → Type 0} {os ps : List Obj} (a b : ℕ) (value value' : ℤ) (next next' : ℕ) → Matched P os ps a b →
+pub links-differ : {P : ℕ → ℕ → Type 0} {os ps : List Obj} (a b : ℕ) (value value' : ℤ) (next next' : ℕ) → Matched P os ps a b →
     slice_get os a ≡ Some (link value next) → slice_get ps b ≡ Some (link value' next') → (value ≡ value') × P next next'
 links-differ {P = P} a b value value' next next' m e f =
     let x : m.object ≡ link value next = same_Some _ _ (sym m.first ∙ e) in
