@@ -19,7 +19,7 @@ use Rattle.je_java.specs.Meaning.{java, meanings, call}
 use Rattle.je_java.specs.Opened.{opened}
 use Rattle.je_java.proofs.Rows.{none, two, node, increased, class_a, method, program, body, gives, does, constructor, after}
 use Rattle.je_worlds.specs.After.{objects_after}
-use Rattle.je_worlds.specs.Agree.{Renames, Matched}
+use Rattle.je_worlds.specs.Agree.{Pairing, Renames, Matched}
 use Rattle.je_worlds.specs.Changes.{ChangesOnlyReached}
 use Rattle.je_worlds.specs.Examples.{link, ring, other_ring, other_order, loop_of_one, loop_of_two}
 use Rattle.je_worlds.specs.Reach.{reference}
@@ -60,7 +60,7 @@ module _ (ptr : Ptr) (global : Global) where
 -- what the laws can't do without
 
 -- the objects of a pair match after two runs that did the same
-matched-after : {P : ℕ → ℕ → Type 0} {n m : ℕ} {x y : Answer} (os ps : List Obj) (a b : ℕ) → Same P n m x y → objects_after x ≡ Some os → objects_after y ≡ Some ps → P a b →
+matched-after : {P : Pairing} {n m : ℕ} {x y : Answer} (os ps : List Obj) (a b : ℕ) → Same P n m x y → objects_after x ≡ Some os → objects_after y ≡ Some ps → P a b →
     (made : ℕ) × Matched (Grown P n m made) os ps a b
 matched-after {P = P} {n = n} {m = m} os ps a b same e f p = by same e f
   where

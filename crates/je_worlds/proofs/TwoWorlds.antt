@@ -15,14 +15,14 @@ use Rattle.je_java.specs.World.{slots_of, with_slots, class_in, slot_in, with_sl
 use Rattle.je_java.specs.Steps.{State, Public}
 use Rattle.je_java.specs.Meaning.{call}
 use Rattle.je_java.proofs.Related.{Parts, Laws, nil, cons, OptionRel, ValueRel, bool, byte, short, char, int, long, null, ref, StateRel, Values, get-both, set-both}
-use Rattle.je_worlds.specs.Agree.{ValueMatch, equal, paired, ObjectMatch, instance, Matched, Agree}
+use Rattle.je_worlds.specs.Agree.{Pairing, ValueMatch, equal, paired, ObjectMatch, instance, Matched, Agree}
 use Rattle.je_worlds.specs.Same.{Grown, old, new, SameObjects, SameState, Same, done, thrown, spent, wrong}
 use Rattle.je_worlds.proofs.Matches.{values-map, object-map, matched-map}
 use Rattle.je_worlds.proofs.Lists.{slice_get-append_left, slice_get-push, length-with_slot, slice_get-with_slot_same, slice_get-with_slot_other}
 use Rattle.je_worlds.proofs.Calls.{Ends, call-related}
 
 -- what two runs begin with: a one-to-one renaming of some objects of two worlds of n and n' objects
-module _ (P : ℕ → ℕ → Type 0) (n n' : ℕ) where
+module _ (P : Pairing) (n n' : ℕ) where
   pub record OneToOne : Type 0 where
     pub forth : (a b c : ℕ) → P a b → P a c → b ≡ c
     pub back : (a b c : ℕ) → P a c → P b c → a ≡ b
@@ -32,7 +32,7 @@ module _ (P : ℕ → ℕ → Type 0) (n n' : ℕ) where
   abbrev pub Two : Parts
   Two = record { Pair = Grown P n n'; Worlds = SameObjects P n n'; Publics = λ p q. p ≡ q; Answers = Same P n n' }
 
-  abbrev Pairs : ℕ → ℕ → ℕ → Type 0
+  abbrev Pairs : ℕ → Pairing
   Pairs = Grown P n n'
 
   -- values that are related are those that match
@@ -189,7 +189,7 @@ module _ (P : ℕ → ℕ → Type 0) (n n' : ℕ) where
     same p units class at v w vs ws os ps r z = call-related two-laws two-ends p units class at os ps r (related z.0) (relateds vs ws z.1)
 
 -- two worlds that agree
-pub one-to-one : (P : ℕ → ℕ → Type 0) (os ps : List Obj) (vs ws : List Value) → Agree P os vs ps ws → OneToOne P (length os) (length ps)
+pub one-to-one : (P : Pairing) (os ps : List Obj) (vs ws : List Value) → Agree P os vs ps ws → OneToOne P (length os) (length ps)
 one-to-one P os ps vs ws g = record {
   forth = g.forth;
   back = g.back;
@@ -197,7 +197,7 @@ one-to-one P os ps vs ws g = record {
   below' = λ a b p. let m = g.matched a b p in slice_get_within ps b m.object' m.second;
 }
 
-pub two-worlds : (P : ℕ → ℕ → Type 0) (p : Program) (units : ℕ) (class : ClassId) (at : ℕ) (v w : Value) (vs ws : List Value) (os ps : List Obj) →
+pub two-worlds : (P : Pairing) (p : Program) (units : ℕ) (class : ClassId) (at : ℕ) (v w : Value) (vs ws : List Value) (os ps : List Obj) →
     Agree P os (v ∷ vs) ps (w ∷ ws) → Same P (length os) (length ps) (call p units class at v vs os) (call p units class at w ws ps)
 two-worlds P p units class at v w vs ws os ps g = same P (length os) (length ps) (one-to-one P os ps (v ∷ vs) (w ∷ ws) g) p units class at v w vs ws os ps alike (values-map start (v ∷ vs) (w ∷ ws) g.in_order)
   where

@@ -2,8 +2,8 @@
 -- (Finifter, Mettler, Sastry and Wagner, Verifiable Functional Purity in Java, CCS 2008, where arguments are equal as
 -- graphs of objects). All other objects may differ.
 --
--- A renaming pairs numbers of the first world with numbers of the second. The definitions take it as a relation, and
--- the laws as a list of pairs.
+-- A renaming pairs numbers of the first world with numbers of the second. The definitions take it as a relation, the
+-- laws as a list of pairs.
 use Rattle.std.specs.Prelude.{◌≡◌, ◌↔◌, ℕ, List, Some, Bool, true, false, slice_get, Contains}
 use Rattle.std.specs.List.{AllZip}
 use Rattle.je_core.specs.declared.object.Obj.{Obj}
@@ -13,8 +13,12 @@ use Rattle.je_core.specs.declared.value.Value.{Value}
 use Rattle.je_core.specs.declared.value.Value.TheVariants.{Ref}
 use Rattle.je_worlds.specs.Reach.{reference, Reach}
 
--- the relation of a list of pairs
-abbrev pub Renames : List (ℕ × ℕ) → ℕ → ℕ → Type 0
+-- which number of the first world is paired with which of the second
+abbrev pub Pairing : Type 1
+Pairing = ℕ → ℕ → Type 0
+
+-- the pairs of a list
+abbrev pub Renames : List (ℕ × ℕ) → Pairing
 Renames renaming a b = Contains renaming (a, b)
 
 abbrev pub is_reference : Value → Bool
@@ -22,17 +26,17 @@ is_reference (Ref object) = true
 is_reference _ = false
 
 -- two values are equal and no references, or refer to objects that are paired
-pub data ValueMatch (Paired : ℕ → ℕ → Type 0) : Value → Value → Type 0 where
+pub data ValueMatch (Paired : Pairing) : Value → Value → Type 0 where
   equal : {value : Value} → is_reference value ≡ false → ValueMatch Paired value value
   paired : {a b : ℕ} → Paired a b → ValueMatch Paired (reference a) (reference b)
 
 -- two objects are of one kind, class and length, and their slots match
-pub data ObjectMatch (Paired : ℕ → ℕ → Type 0) : Obj → Obj → Type 0 where
+pub data ObjectMatch (Paired : Pairing) : Obj → Obj → Type 0 where
   instance : {class : ClassId} {slots slots' : List Value} → AllZip (ValueMatch Paired) slots slots' →
       ObjectMatch Paired (Instance class slots) (Instance class slots')
 
 -- number a is an object of the first world, number b one of the second, and the two match
-pub record Matched (Paired : ℕ → ℕ → Type 0) (objects objects' : List Obj) (a b : ℕ) : Type 0 where
+pub record Matched (Paired : Pairing) (objects objects' : List Obj) (a b : ℕ) : Type 0 where
   pub object : Obj
   pub object' : Obj
   pub first : slice_get objects a ≡ Some object
@@ -41,7 +45,7 @@ pub record Matched (Paired : ℕ → ℕ → Type 0) (objects objects' : List Ob
 
 -- a renaming is one-to-one, from just what the first roots reach to just what the second roots reach; paired objects
 -- match, and so do the roots, in order
-pub record Agree (Paired : ℕ → ℕ → Type 0) (objects : List Obj) (roots : List Value) (objects' : List Obj) (roots' : List Value) : Type 0 where
+pub record Agree (Paired : Pairing) (objects : List Obj) (roots : List Value) (objects' : List Obj) (roots' : List Value) : Type 0 where
   pub forth : (a b c : ℕ) → Paired a b → Paired a c → b ≡ c
   pub back : (a b c : ℕ) → Paired a c → Paired b c → a ≡ b
   pub left : (a : ℕ) → ((b : ℕ) × Paired a b) ↔ Reach objects roots a

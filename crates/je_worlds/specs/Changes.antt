@@ -7,4 +7,5 @@ use Rattle.je_worlds.specs.Reach.{Reach}
 
 -- every earlier object that the roots don't reach is what it was
 abbrev pub ChangesOnlyReached : List Obj → List Value → List Obj → Type 0
-ChangesOnlyReached old roots new = (number : ℕ) → number < length old → ¬ Reach old roots number → slice_get new number ≡ slice_get old number
+ChangesOnlyReached old roots new =
+    (number : ℕ) → number < length old → ¬ Reach old roots number → slice_get new number ≡ slice_get old number

@@ -7,10 +7,10 @@
 //! - `specs/After.antt`: two worlds agree again after their runs.
 //! - `specs/Changes.antt`: what a run can't have changed.
 //!
-//! The crate has no code. Each function states laws of the definitions, and its proof is that its empty body meets
-//! them. Whoever runs calls (a session's turn, the command line) cites `two_worlds` and `frame` for the running that
-//! it was proved to be. A world is its list of objects. The laws ask nothing of it: where a reached reference leads to
-//! no object, no renaming agrees on it, and the frame holds all the same.
+//! The crate has no code: each function states laws of these definitions, which its empty body meets. A layer that
+//! runs calls, and is proved to run them as `je_java` says, has from `two_worlds` and `frame` whom a call can hear
+//! from and whom it can act on. A world is its list of objects, and nothing is asked of it: where a reference that is
+//! reached leads to no object, no renaming agrees on it, and the frame holds all the same.
 #![tactic(auto)]
 
 ghost use Rattle.std.specs.Prelude.{ℕ, ◌+◌, ◌≢◌, List, [], ◌∷◌, length, pos, IfSome};
@@ -34,12 +34,14 @@ pub fn two_worlds()
         (this this' : Value) (args args' : List Value) (objects objects' : List Obj) →
         Agree (Renames renaming) objects (this ∷ args) objects' (this' ∷ args') →
         Same (Renames renaming) (length objects) (length objects')
-        (call program units class method this args objects) (call program units class method this' args' objects') }
+        (call program units class method this args objects)
+        (call program units class method this' args' objects') }
 {}
 
 /// Where two worlds agreed and two runs did the same, the worlds agree again on the roots and on what was handed back.
 pub fn agreement_goes_on()
-    ensures after { (renaming : List (ℕ × ℕ)) (roots roots' : List Value) (objects objects' : List Obj) (answer answer' : Answer) →
+    ensures after { (renaming : List (ℕ × ℕ)) (roots roots' : List Value) (objects objects' : List Obj)
+        (answer answer' : Answer) →
         Agree (Renames renaming) objects roots objects' roots' →
         Same (Renames renaming) (length objects) (length objects') answer answer' →
         AgreeAfter (Renames renaming) (length objects) (length objects') answer roots answer' roots' }
@@ -49,7 +51,8 @@ pub fn agreement_goes_on()
 pub fn frame()
     ensures reached { (program : Program) (units : ℕ) (class : ClassId) (method : ℕ)
         (this : Value) (args : List Value) (objects : List Obj) →
-        IfSome (objects_after (call program units class method this args objects)) (ChangesOnlyReached objects (this ∷ args)) }
+        IfSome (objects_after (call program units class method this args objects))
+        (ChangesOnlyReached objects (this ∷ args)) }
 {}
 
 /// The order of a world's objects, and objects that aren't reached, don't count for agreement: a ring of two objects
@@ -58,14 +61,17 @@ pub fn frame()
 pub fn order_and_others_do_not_count()
     ensures ring { Agree (Renames other_order) ring (reference 0 ∷ []) other_ring (reference 2 ∷ []) }
     ensures third { ¬ Reach other_ring (reference 2 ∷ []) 0 }
-    ensures any { (objects objects' : List Obj) → Agree (Renames []) objects (Null ∷ []) objects' (Null ∷ []) }
+    ensures any { (objects objects' : List Obj) →
+        Agree (Renames []) objects (Null ∷ []) objects' (Null ∷ []) }
 {}
 
 /// Values and sharing count for agreement: no renaming agrees on two objects with different numbers in their slots,
 /// nor on one object that refers to itself and two alike that refer to each other.
 pub fn values_and_sharing_count()
-    ensures values { (renaming : List (ℕ × ℕ)) → ¬ Agree (Renames renaming) ring (reference 0 ∷ []) ring (reference 1 ∷ []) }
-    ensures sharing { (renaming : List (ℕ × ℕ)) → ¬ Agree (Renames renaming) loop_of_one (reference 0 ∷ []) loop_of_two (reference 0 ∷ []) }
+    ensures values { (renaming : List (ℕ × ℕ)) →
+        ¬ Agree (Renames renaming) ring (reference 0 ∷ []) ring (reference 1 ∷ []) }
+    ensures sharing { (renaming : List (ℕ × ℕ)) →
+        ¬ Agree (Renames renaming) loop_of_one (reference 0 ∷ []) loop_of_two (reference 0 ∷ []) }
 {}
 
 /// Two runs don't do the same where they end in another form, with another value or with other units left, or where
@@ -76,7 +82,9 @@ pub fn ends_and_counts_count()
     ensures value { (renaming : List (ℕ × ℕ)) (n m : ℕ) (state state' : State) →
         ¬ Same (Renames renaming) n m (Done (Int (pos 1)) state) (Done (Int (pos 2)) state') }
     ensures units { (renaming : List (ℕ × ℕ)) (n m : ℕ) (state state' : State) →
-        state.public.units ≢ state'.public.units → ¬ Same (Renames renaming) n m (Spent state) (Spent state') }
+        state.public.units ≢ state'.public.units →
+        ¬ Same (Renames renaming) n m (Spent state) (Spent state') }
     ensures made { (renaming : List (ℕ × ℕ)) (n m : ℕ) (state state' : State) →
-        length state.objects + m ≢ length state'.objects + n → ¬ Same (Renames renaming) n m (Spent state) (Spent state') }
+        length state.objects + m ≢ length state'.objects + n →
+        ¬ Same (Renames renaming) n m (Spent state) (Spent state') }
 {}
