@@ -2,7 +2,7 @@
 use Rattle.std.proofs.Common.{◌≡◌, ◌≢◌, ◌<◌, ◌≤◌, ℕ, zero, suc, ◌+◌, inl, inr, List, [], ◌∷◌, ◌++◌, length, Option, Some, None, refl, sym, ap, ◌∙◌, subst, arith}
 use Rattle.std.specs.Prelude.{slice_get, IfSome}
 use Rattle.std.proofs.lemmas.List.{length_push}
-use Rattle.std.proofs.lemmas.Option.{none-some, slice_get_past}
+use Rattle.std.proofs.lemmas.Option.{IfSome_then, none-some, slice_get_past}
 use Rattle.je_core.specs.declared.object.Obj.{Obj}
 use Rattle.je_core.specs.declared.object.Obj.TheVariants.{Instance}
 use Rattle.je_core.specs.declared.program.Program.{Program}
@@ -10,12 +10,12 @@ use Rattle.je_core.specs.declared.types.ClassId.{ClassId}
 use Rattle.je_core.specs.declared.value.Value.{Value}
 use Rattle.je_core.specs.declared.value.Value.TheVariants as value
 use Rattle.je_java.specs.World.{class_of, slot_in, slot_of, with_slot}
-use Rattle.je_java.specs.Steps.{Public}
+use Rattle.je_java.specs.Steps.{Public, Answer}
 use Rattle.je_java.specs.Meaning.{call}
 use Rattle.je_java.proofs.Related.{Parts, Laws, nil, cons, OptionRel, none, some, ValueRel, bool, byte, short, char, int, long, null, ref, Values}
 use Rattle.je_worlds.specs.Reach.{reference, Reach, root, along}
-use Rattle.je_worlds.specs.After.{objects_after}
-use Rattle.je_worlds.specs.Changes.{ChangesOnlyReached}
+use Rattle.je_worlds.specs.After.{handed_back, objects_after}
+use Rattle.je_worlds.specs.Changes.{ChangesOnlyReached, ReachesOnlyReached}
 use Rattle.je_worlds.proofs.Lists.{slice_get-append_left, length-with_slot, slice_get-with_slot_other, slot_of-with_slot_cases, slot_of-push_cases}
 use Rattle.je_worlds.proofs.Calls.{Ends, call-related}
 
@@ -32,8 +32,12 @@ module _ (before : List Obj) (roots : List Value) where
     pub closed : (a slot b : ℕ) → Held a → slot_of os a slot ≡ Some (reference b) → Held b
     pub stay : ChangesOnlyReached before roots os
 
+  pub record Ended (handed : List Value) (os : List Obj) : Type 0 where
+    pub changes : ChangesOnlyReached before roots os
+    pub reaches : ReachesOnlyReached before roots handed os
+
   abbrev One : Parts
-  One = record { Pair = λ k a b. (a ≡ b) × Held a; Worlds = λ k os ps. Keeps os ps; Publics = λ p q. p ≡ q; Answers = λ x y. IfSome (objects_after x) (ChangesOnlyReached before roots) }
+  One = record { Pair = λ k a b. (a ≡ b) × Held a; Worlds = λ k os ps. Keeps os ps; Publics = λ p q. p ≡ q; Answers = λ x y. IfSome (objects_after x) (Ended (handed_back x)) }
 
   -- a value is related to itself alone, and just where it holds no reference or a held one
 
@@ -118,13 +122,32 @@ module _ (before : List Obj) (roots : List Value) where
       same : os ≡ ps → vs ≡ ws → os ++ Instance class vs ∷ [] ≡ ps ++ Instance class ws ∷ []
       same e f = λ i. e i ++ Instance class (f i) ∷ []
 
+  -- what held values reach is held
+  reach-held : {os ps : List Obj} (vs : List Value) → Keeps os ps → ((place b : ℕ) → slice_get vs place ≡ Some (reference b) → Held b) → (a : ℕ) → Reach os vs a → Held a
+  reach-held vs r h a (root place e) = h place a e
+  reach-held vs r h a (along {number = c} slot w e) = r.closed c slot a (reach-held vs r h c w) e
+
+  ended : {os ps : List Obj} (handed : List Value) → Keeps os ps → ((place b : ℕ) → slice_get (handed ++ roots) place ≡ Some (reference b) → Held b) → Ended handed os
+  ended {os = os} handed r h = record { changes = r.stay; reaches = λ c l w. by c l (reach-held (handed ++ roots) r h c w) }
+    where
+      by : (c : ℕ) → c < length before → Held c → Reach before roots c
+      by c l (reached w) = w
+      by c l (later m) = absurd (omega arith)
+
+  roots-held : (place b : ℕ) → slice_get roots place ≡ Some (reference b) → Held b
+  roots-held place b e = reached (root place e)
+
+  more-held : (v : Value) → ((b : ℕ) → v ≡ reference b → Held b) → (place b : ℕ) → slice_get (v ∷ roots) place ≡ Some (reference b) → Held b
+  more-held v h zero b e = h b (cc)
+  more-held v h (suc place) b e = roots-held place b e
+
   one-laws : Laws One
   one-laws = record {
     pair-more = λ k i a b l p. p;
     public = λ p q e. e;
     lowered = λ p q units l e. ap (λ (z : Public). record z { units = units }) e;
     wrongs = tt;
-    spents = λ k s t st. st.objects.stay;
+    spents = λ k s t st. ended [] st.objects roots-held;
     classes = λ k os ps a b r p. let e = r.one in let f = p.0 in λ i. class_of (e i) (f i);
     reads = λ k os ps a b at r p. reads-one a b at r p;
     writes = λ k os ps a b at v w r p q. writes-one a b at r p q;
@@ -135,8 +158,8 @@ module _ (before : List Obj) (roots : List Value) where
   one-ends = record {
     begins = λ p q units e. ap (λ (z : Public). record { units = units; begun = z.begun + 1 }) e;
     starts = λ units. refl;
-    dones = λ k v w s t q st. st.objects.stay;
-    throws = λ k o o' s t p st. st.objects.stay;
+    dones = λ k v w s t q st. ended (v ∷ []) st.objects (more-held v (λ b e. value-held b q e));
+    throws = λ k o o' s t p st. ended (value.Ref o ∷ []) st.objects (more-held (value.Ref o) (λ b e. subst Held (cc) p.is.1));
   }
 
   begin : Keeps before before
@@ -146,14 +169,22 @@ module _ (before : List Obj) (roots : List Value) where
       closed a slot b (reached r) e = reached (along slot r e)
       closed a slot b (later l) e = absurd (none-some (reference b) (sym (ap (λ o. slot_in o slot) (slice_get_past before a l)) ∙ e))
 
-  pub stays : (p : Program) (units : ℕ) (class : ClassId) (at : ℕ) (v : Value) (vs : List Value) → v ∷ vs ≡ roots → IfSome (objects_after (call p units class at v vs before)) (ChangesOnlyReached before roots)
-  stays p units class at v vs is = call-related one-laws one-ends p units class at before before begin
-      (value-self v (λ b e. reached (root 0 (held 0 b (ap Some e)))))
-      (values-self vs (λ slot b e. reached (root (suc slot) (held (suc slot) b e))))
+  pub ends : (p : Program) (units : ℕ) (class : ClassId) (at : ℕ) (v : Value) (vs : List Value) → v ∷ vs ≡ roots → let x = call p units class at v vs before in IfSome (objects_after x) (Ended (handed_back x))
+  ends p units class at v vs is = call-related one-laws one-ends p units class at before before begin
+      (value-self v (λ b e. roots-held 0 b (at_root 0 b (ap Some e))))
+      (values-self vs (λ slot b e. roots-held (suc slot) b (at_root (suc slot) b e)))
     where
-      held : (slot b : ℕ) → slice_get (v ∷ vs) slot ≡ Some (reference b) → slice_get roots slot ≡ Some (reference b)
-      held slot b e = subst (λ z. slice_get z slot ≡ Some (reference b)) is e
+      at_root : (slot b : ℕ) → slice_get (v ∷ vs) slot ≡ Some (reference b) → slice_get roots slot ≡ Some (reference b)
+      at_root slot b e = subst (λ z. slice_get z slot ≡ Some (reference b)) is e
 
--- a call changes no object that its receiver and arguments don't reach
-pub changes-only-reached : (p : Program) (units : ℕ) (class : ClassId) (at : ℕ) (v : Value) (vs : List Value) (os : List Obj) → IfSome (objects_after (call p units class at v vs os)) (ChangesOnlyReached os (v ∷ vs))
-changes-only-reached p units class at v vs os = stays os (v ∷ vs) p units class at v vs refl
+module _ (p : Program) (units : ℕ) (class : ClassId) (at : ℕ) (v : Value) (vs : List Value) (os : List Obj) where
+  abbrev answer : Answer
+  answer = call p units class at v vs os
+
+  -- a call changes no object that its receiver and arguments don't reach
+  pub changes : IfSome (objects_after answer) (ChangesOnlyReached os (v ∷ vs))
+  changes = IfSome_then (objects_after answer) (ends os (v ∷ vs) p units class at v vs refl) (λ after e. e.changes)
+
+  -- nor gives a way to one
+  pub reaches : IfSome (objects_after answer) (ReachesOnlyReached os (v ∷ vs) (handed_back answer))
+  reaches = IfSome_then (objects_after answer) (ends os (v ∷ vs) p units class at v vs refl) (λ after e. e.reaches)

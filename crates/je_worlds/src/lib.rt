@@ -5,7 +5,7 @@
 //! - `specs/Agree.antt`: two worlds agree on what two calls reach, by a one-to-one renaming of just these objects.
 //! - `specs/Same.antt`: two runs do the same, new objects renamed.
 //! - `specs/After.antt`: two worlds agree again after their runs.
-//! - `specs/Changes.antt`: what a run can't have changed.
+//! - `specs/Changes.antt`: what a run can't have changed, or given a way to.
 //!
 //! The crate has no code: each function states laws of these definitions, which its empty body meets. A layer that
 //! runs calls, and is proved to run them as `je_java` says, has from `two_worlds` and `frame` whom a call can hear
@@ -21,9 +21,9 @@ ghost use Rattle.je_core.specs.declared.value.Value.{Value};
 ghost use Rattle.je_core.specs.declared.value.Value.TheVariants.{Int, Null};
 ghost use Rattle.je_java.specs.Meaning.{call};
 ghost use Rattle.je_java.specs.Steps.{State, Answer, Done, Spent};
-ghost use Rattle.je_worlds.specs.After.{AgreeAfter, objects_after};
+ghost use Rattle.je_worlds.specs.After.{AgreeAfter, handed_back, objects_after};
 ghost use Rattle.je_worlds.specs.Agree.{Agree, Renames};
-ghost use Rattle.je_worlds.specs.Changes.{ChangesOnlyReached};
+ghost use Rattle.je_worlds.specs.Changes.{ChangesOnlyReached, ReachesOnlyReached};
 ghost use Rattle.je_worlds.specs.Examples.{ring, other_ring, other_order, loop_of_one, loop_of_two};
 ghost use Rattle.je_worlds.specs.Reach.{Reach, reference};
 ghost use Rattle.je_worlds.specs.Same.{Same};
@@ -47,12 +47,16 @@ pub fn agreement_goes_on()
         AgreeAfter (Renames renaming) (length objects) (length objects') answer roots answer' roots' }
 {}
 
-/// A call changes no object that its receiver and arguments don't reach.
+/// A call changes no earlier object that its receiver and arguments don't reach, and opens no way to one.
 pub fn frame()
-    ensures reached { (program : Program) (units : ℕ) (class : ClassId) (method : ℕ)
+    ensures changes { (program : Program) (units : ℕ) (class : ClassId) (method : ℕ)
         (this : Value) (args : List Value) (objects : List Obj) →
         IfSome (objects_after (call program units class method this args objects))
         (ChangesOnlyReached objects (this ∷ args)) }
+    ensures reaches { (program : Program) (units : ℕ) (class : ClassId) (method : ℕ)
+        (this : Value) (args : List Value) (objects : List Obj) →
+        let answer = call program units class method this args objects in
+        IfSome (objects_after answer) (ReachesOnlyReached objects (this ∷ args) (handed_back answer)) }
 {}
 
 /// The order of a world's objects, and objects that aren't reached, don't count for agreement: a ring of two objects
