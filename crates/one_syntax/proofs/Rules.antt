@@ -1,6 +1,6 @@
 -- Rules for what holds of the answer of a reading, if there is one.
 use Rattle.std.proofs.Common.{◌≡◌, Bool, true, false, cond, Option, Some, None, IfSome, refl, ap}
-use Rattle.one_syntax.specs.Reading.{◌>>=◌}
+use Rattle.one_syntax.specs.Reading.{◌>>=◌, with}
 
 pub bind : {A B : Type 0} (o : Option A) (f : A → Option B) (P : A → Type 0) (Q : B → Type 0) → IfSome o P → ((x : A) → P x → IfSome (f x) Q) → IfSome (o >>= f) Q
 bind (Some x) f P Q h g = g x h
@@ -29,3 +29,12 @@ first_same {A} {B} a c b d e = ap (λ (o : Option (A × B)). (or {A = A × B} (a
 
 pub second_same : {A B : Type 0} (a c : A) (b d : B) → ◌≡◌ {A = Option (A × B)} (Some (a, b)) (Some (c, d)) → b ≡ d
 second_same {A} {B} a c b d e = ap (λ (o : Option (A × B)). (or {A = A × B} (a, b) o).1) e
+
+pub with_same : {A B : Type 0} (o : Option A) (f g : A → B) (y : B) (P : A → Type 0) → IfSome o P → ((x : A) → P x → f x ≡ g x) → with o f y ≡ with o g y
+with_same (Some x) f g y P h e = e x h
+with_same None f g y P h e = refl
+
+-- what holds of either answer
+pub with_has : {A B : Type 0} (o : Option A) (f : A → B) (y : B) (P : A → Type 0) (Q : B → Type 0) → IfSome o P → ((x : A) → P x → Q (f x)) → Q y → Q (with o f y)
+with_has (Some x) f y P Q h e k = e x h
+with_has None f y P Q h e k = k

@@ -1,6 +1,6 @@
 -- Reading tokens from left to right, one definition for each function of the parser. The tree that is read is the one that
 -- spells them.
-use Rattle.std.specs.Prelude.{ℕ, zero, suc, max, nat_lt, Bool, true, false, List, [], ◌∷◌, ◌++◌, length, Option, Some, None, if◌then◌else◌}
+use Rattle.std.specs.Prelude.{ℕ, zero, suc, ◌+◌, max, nat_lt, Bool, true, false, List, [], ◌∷◌, ◌++◌, length, Option, Some, None, if◌then◌else◌}
 use Rattle.je_core.specs.declared.expr.BinOp.{BinOp}
 use Rattle.je_core.specs.declared.expr.BinOp.TheVariants.{Mul, Add, Sub}
 use Rattle.je_core.specs.declared.span.NameId.{NameId}
@@ -22,23 +22,28 @@ abbrev pub ◌>>=◌ : {A B : Type 0} → Option A → (A → Option B) → Opti
 (Some x) >>= f = f x
 None >>= f = None
 
+-- what comes of what was read, or else what stands already
+abbrev pub with : {A B : Type 0} → Option A → (A → B) → B → B
+with (Some x) f y = f x
+with None f y = y
+
 -- the tokens behind this one
 
 abbrev pub behind_paren : List Token → Option (List Token)
 behind_paren (RightParen ∷ ts) = Some ts
 behind_paren _ = None
 
-abbrev pub behind_brace : List Token → Option (List Token)
-behind_brace (LeftBrace ∷ ts) = Some ts
-behind_brace _ = None
+abbrev pub behind_left_brace : List Token → Option (List Token)
+behind_left_brace (LeftBrace ∷ ts) = Some ts
+behind_left_brace _ = None
+
+abbrev pub behind_right_brace : List Token → Option (List Token)
+behind_right_brace (RightBrace ∷ ts) = Some ts
+behind_right_brace _ = None
 
 abbrev pub behind_semicolon : List Token → Option (List Token)
 behind_semicolon (Semicolon ∷ ts) = Some ts
 behind_semicolon _ = None
-
-abbrev pub behind_end : List Token → Option (List Token)
-behind_end (Semicolon ∷ RightBrace ∷ ts) = Some ts
-behind_end _ = None
 
 -- the operator of a sum, and the tokens behind it
 abbrev pub additive_at : List Token → Read BinOp
@@ -46,10 +51,10 @@ additive_at (Plus ∷ ts) = Some (Add, ts)
 additive_at (Minus ∷ ts) = Some (Sub, ts)
 additive_at _ = None
 
--- the class, where nothing stands behind it
+-- the class, where its closing brace is the last token
 abbrev pub whole : NameId → List MemberTree → List Token → Option OneTree
-whole c ms [] = Some (record { name = c; members = ms })
-whole c ms (t ∷ ts) = None
+whole c ms (RightBrace ∷ []) = Some (record { name = c; members = ms })
+whole c ms _ = None
 
 -- the operator's tree, where neither operand is higher than h
 unfoldable pub joined : ℕ → BinOp → ExprTree → ExprTree × List Token → Read ExprTree
@@ -105,23 +110,40 @@ unfoldable pub expr_at : ℕ → List Token → Read ExprTree
 expr_at zero ts = None
 expr_at (suc h) ts = sum_at h (expr_at h) ts
 
--- Expressions that are part of a statement are of height at most suc h.
+-- an expression and the semicolon behind it
+unfoldable pub ended_at : ℕ → List Token → Read ExprTree
+ended_at h ts = expr_at h ts >>= λ e. behind_semicolon e.1 >>= λ rest. Some (e.0, rest)
+
+-- Below, the value of an assignment is of height at most h, and the other expressions of a statement are of height at most h + 1.
 module _ (h : ℕ) where
+  unfoldable pub declare_at : NameId → List Token → Read StatementTree
+  declare_at x ts = ended_at (h + 1) ts >>= λ e. Some (declare x e.0, e.1)
+
+  unfoldable pub assign_at : NameId → List Token → Read StatementTree
+  assign_at x ts = ended_at h ts >>= λ e. Some (assign x e.0, e.1)
+
+  unfoldable pub perform_at : List Token → Read StatementTree
+  perform_at ts = call_at h (expr_at h) ts >>= λ c. behind_semicolon c.1 >>= λ rest. Some (perform c.0.0 c.0.1 c.0.2, rest)
+
   unfoldable pub statement_at : List Token → Read StatementTree
-  statement_at (Int ∷ Identifier x ∷ Assign ∷ ts) = expr_at (suc h) ts >>= λ e. behind_semicolon e.1 >>= λ rest. Some (declare x e.0, rest)
+  statement_at (Int ∷ Identifier x ∷ Assign ∷ ts) = declare_at x ts
   statement_at (Identifier c ∷ Identifier x ∷ Assign ∷ New ∷ Identifier d ∷ LeftParen ∷ RightParen ∷ Semicolon ∷ ts) = Some (make c x d, ts)
-  statement_at (Identifier x ∷ Assign ∷ ts) = expr_at h ts >>= λ e. behind_semicolon e.1 >>= λ rest. Some (assign x e.0, rest)
-  statement_at (Identifier m ∷ LeftParen ∷ ts) = call_at h (expr_at h) (Identifier m ∷ LeftParen ∷ ts) >>= λ c. behind_semicolon c.1 >>= λ rest. Some (perform c.0.0 c.0.1 c.0.2, rest)
-  statement_at (Identifier r ∷ Dot ∷ ts) = call_at h (expr_at h) (Identifier r ∷ Dot ∷ ts) >>= λ c. behind_semicolon c.1 >>= λ rest. Some (perform c.0.0 c.0.1 c.0.2, rest)
+  statement_at (Identifier x ∷ Assign ∷ ts) = assign_at x ts
+  statement_at (Identifier m ∷ LeftParen ∷ ts) = perform_at (Identifier m ∷ LeftParen ∷ ts)
+  statement_at (Identifier r ∷ Dot ∷ ts) = perform_at (Identifier r ∷ Dot ∷ ts)
   statement_at _ = None
 
-  unfoldable pub body_at : ℕ → List StatementTree → List Token → Read (List StatementTree × ExprTree)
-  body_at n front (Return ∷ ts) = expr_at (suc h) ts >>= λ e. behind_end e.1 >>= λ rest. Some ((front, e.0), rest)
-  body_at (suc n) front ts = statement_at ts >>= λ s. body_at n (front ++ s.0 ∷ []) s.1
-  body_at zero front ts = None
+  -- statements, as long as there are any
+  unfoldable pub statements_at : ℕ → List StatementTree → List Token → List StatementTree × List Token
+  statements_at zero front ts = (front, ts)
+  statements_at (suc n) front ts = with (statement_at ts) (λ s. statements_at n (front ++ s.0 ∷ []) s.1) (front, ts)
 
-  unfoldable pub method_at : Bool → NameId → List NameId → List Token → Read MemberTree
-  method_at s f params ts = body_at (length ts) [] ts >>= λ b. Some (method s f params b.0.0 b.0.1, b.1)
+  unfoldable pub returned_at : List Token → Read ExprTree
+  returned_at (Return ∷ ts) = ended_at (h + 1) ts >>= λ e. behind_right_brace e.1 >>= λ rest. Some (e.0, rest)
+  returned_at _ = None
+
+  unfoldable pub body_at : List Token → Read (List StatementTree × ExprTree)
+  body_at ts = let ss = statements_at (length ts) [] ts in returned_at ss.1 >>= λ e. Some ((ss.0, e.0), e.1)
 
 -- parameters behind the first one
 unfoldable pub more_params_at : List NameId → List Token → Read (List NameId)
@@ -135,20 +157,20 @@ params_at (Int ∷ Identifier x ∷ ts) = more_params_at (x ∷ []) ts
 params_at _ = None
 
 module _ (h : ℕ) where
-  unfoldable pub signed_at : Bool → NameId → List Token → Read MemberTree
-  signed_at s f ts = params_at ts >>= λ x. behind_brace x.1 >>= λ rest. method_at h s f x.0 rest
+  unfoldable pub method_at : Bool → NameId → List Token → Read MemberTree
+  method_at s f ts = params_at ts >>= λ ps. behind_left_brace ps.1 >>= λ mid. body_at h mid >>= λ b. Some (method s f ps.0 b.0.0 b.0.1, b.1)
 
   unfoldable pub member_at : List Token → Read MemberTree
   member_at (Int ∷ Identifier x ∷ Semicolon ∷ ts) = Some (field x, ts)
-  member_at (Int ∷ Identifier f ∷ LeftParen ∷ ts) = signed_at false f ts
-  member_at (Static ∷ Int ∷ Identifier f ∷ LeftParen ∷ ts) = signed_at true f ts
+  member_at (Int ∷ Identifier f ∷ LeftParen ∷ ts) = method_at false f ts
+  member_at (Static ∷ Int ∷ Identifier f ∷ LeftParen ∷ ts) = method_at true f ts
   member_at _ = None
 
-  unfoldable pub members_at : ℕ → List MemberTree → List Token → Read (List MemberTree)
-  members_at n front (RightBrace ∷ ts) = Some (front, ts)
-  members_at (suc n) front ts = member_at ts >>= λ m. members_at n (front ++ m.0 ∷ []) m.1
-  members_at zero front ts = None
+  -- members, as long as there are any
+  unfoldable pub members_at : ℕ → List MemberTree → List Token → List MemberTree × List Token
+  members_at zero front ts = (front, ts)
+  members_at (suc n) front ts = with (member_at ts) (λ m. members_at n (front ++ m.0 ∷ []) m.1) (front, ts)
 
   unfoldable pub one_at : List Token → Option OneTree
-  one_at (Class ∷ Identifier c ∷ LeftBrace ∷ ts) = members_at (length ts) [] ts >>= λ ms. whole c ms.0 ms.1
+  one_at (Class ∷ Identifier c ∷ LeftBrace ∷ ts) = let ms = members_at (length ts) [] ts in whole c ms.0 ms.1
   one_at _ = None

@@ -5,7 +5,9 @@
 //! is seen by `view_exprs`, and the lemma `view_expr-Call` of `proofs::Views` says so of the whole call.
 #![tactic(auto)]
 
-mod expr;
+mod expressions;
+mod members;
+mod statements;
 mod tree;
 
 pub use tree::{Expr, Member, One, Statement};

@@ -5,7 +5,7 @@ use Rattle.one_syntax.specs.Trees.{view_expr}
 use Rattle.one_syntax.specs.Reading.{additive_at, expr_at}
 use Rattle.one_syntax.proofs.Shorter.{expr_less}
 use Rattle.one_syntax.proofs.Loops.{factors_go, terms_go, additive_less, more_args_go, args_height-push}
-use Rattle.one_syntax.proofs.expr.+expression.Goals as goal
+use Rattle.one_syntax.proofs.expressions.+expression.Goals as goal
 
 pub product-loop-left-preserved : goal.product-loop-left-preserved
 product-loop-left-preserved t c =
