@@ -1,15 +1,15 @@
 -- Each expression that spells the tokens, and is no higher than was asked, is read again, where the token behind it doesn't go on with it.
-use Rattle.std.proofs.Common.{◌≡◌, ℕ, zero, suc, ◌<◌, ◌≤◌, max, nat_lt, Bool, true, false, List, [], ◌∷◌, length, Option, Some, None, IfSome, refl, sym, ap, ◌∙◌, arith}
+use Rattle.std.proofs.Common.{◌≡◌, ℕ, zero, suc, ◌<◌, ◌≤◌, max, nat_lt, Bool, true, false, List, ◌∷◌, length, Option, Some, refl, sym, ap, ◌∙◌, arith}
 use Rattle.std.proofs.lemmas.Bool.{le-ltb, lt-ltb}
 use Rattle.je_core.specs.declared.expr.BinOp.{BinOp}
 use Rattle.je_core.specs.declared.expr.BinOp.TheVariants.{Mul, Add, Sub}
 use Rattle.je_core.specs.declared.span.NameId.{NameId}
 use Rattle.one_tokens.specs.declared.token.Token.{Token}
-use Rattle.one_tokens.specs.declared.token.Token.TheVariants.{Class, Int, Static, Return, New, Identifier, Decimal, LeftParen, RightParen, LeftBrace, RightBrace, Semicolon, Comma, Dot, Assign, Plus, Minus, Star}
+use Rattle.one_tokens.specs.declared.token.Token.TheVariants.{Identifier, LeftParen, RightParen, Dot, Plus, Minus, Star}
 use Rattle.one_syntax.specs.Trees.{ExprTree, ExprTrees, append, decimal, name, call, brackets, binary, none, more}
-use Rattle.one_syntax.specs.Height.{expr_height, args_height, receiver_height}
+use Rattle.one_syntax.specs.Height.{expr_height, args_height}
 use Rattle.one_syntax.specs.Grammar.{SpellsSum, is_product, is_plus, is_minus, SpellsProduct, is_primary, is_times, SpellsPrimary, is_decimal, is_name, is_call, is_brackets, SpellsCall, is_simple, is_on, SpellsArgs, no_args, some_args, SpellsMoreArgs, no_more_args, one_more_arg}
-use Rattle.one_syntax.specs.Reading.{Read, Parts, ◌>>=◌, more_args_at, args_at, call_at, brackets_at, call_expr_at, primary_at, joined, factors_at, product_at, terms_at, sum_at, expr_at}
+use Rattle.one_syntax.specs.Reading.{Read, ◌>>=◌, more_args_at, args_at, call_at, brackets_at, call_expr_at, primary_at, joined, factors_at, product_at, terms_at, sum_at, expr_at}
 use Rattle.one_syntax.proofs.Shorter.{Less, Shortens, expr_less}
 use Rattle.one_syntax.proofs.Loops.{factors_go, terms_go}
 use Rattle.one_syntax.proofs.Sound.{append_none, append_assoc}

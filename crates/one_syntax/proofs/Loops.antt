@@ -1,13 +1,13 @@
 -- One turn of each loop.
-use Rattle.std.proofs.Common.{◌≡◌, ℕ, zero, suc, max, ◌<◌, ◌≤◌, List, ◌∷◌, ◌++◌, [], length, Option, Some, None, IfSome, refl, sym, ap, ◌∙◌, arith, cond, Bool, true, false}
+use Rattle.std.proofs.Common.{◌≡◌, ℕ, zero, suc, max, ◌<◌, List, ◌∷◌, ◌++◌, [], length, Some, None, refl, sym, ap, ◌∙◌, arith}
 use Rattle.je_core.specs.declared.expr.BinOp.{BinOp}
 use Rattle.je_core.specs.declared.expr.BinOp.TheVariants.{Mul, Add, Sub}
 use Rattle.one_tokens.specs.declared.token.Token.{Token}
 use Rattle.one_tokens.specs.declared.token.Token.TheVariants.{Comma, Plus, Minus, Star}
 use Rattle.one_syntax.specs.declared.tree.Expr.{Expr}
-use Rattle.one_syntax.specs.Trees.{ExprTree, ExprTrees, append, none, more, view_expr, view_exprs}
+use Rattle.one_syntax.specs.Trees.{ExprTree, append, none, more, view_expr, view_exprs}
 use Rattle.one_syntax.specs.Height.{expr_height, args_height}
-use Rattle.one_syntax.specs.Reading.{◌>>=◌, more_args_at, primary_at, joined, factors_at, product_at, terms_at, additive_at, Read}
+use Rattle.one_syntax.specs.Reading.{more_args_at, primary_at, joined, factors_at, product_at, terms_at, additive_at, Read}
 use Rattle.one_syntax.proofs.Rules.{first_same, second_same}
 use Rattle.one_syntax.proofs.Shorter.{Less, Shortens, joined_less, primary_less, product_less}
 use Rattle.one_syntax.proofs.Fuel.{more_args_fuel, factors_fuel, terms_fuel}

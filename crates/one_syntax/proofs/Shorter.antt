@@ -1,14 +1,14 @@
 -- What is read uses tokens up, so that a count of the tokens that are left is enough for each loop.
-use Rattle.std.proofs.Common.{◌≡◌, ℕ, zero, suc, ◌<◌, ◌≤◌, max, nat_lt, Bool, true, false, List, [], ◌∷◌, length, Option, Some, None, IfSome, refl, arith}
+use Rattle.std.proofs.Common.{ℕ, zero, suc, ◌<◌, ◌≤◌, max, nat_lt, List, ◌∷◌, length, Option, Some, None, IfSome, arith}
 use Rattle.je_core.specs.declared.expr.BinOp.{BinOp}
 use Rattle.je_core.specs.declared.expr.BinOp.TheVariants.{Mul, Add, Sub}
 use Rattle.je_core.specs.declared.span.NameId.{NameId}
 use Rattle.one_tokens.specs.declared.token.Token.{Token}
-use Rattle.one_tokens.specs.declared.token.Token.TheVariants.{Class, Int, Static, Return, New, Identifier, Decimal, LeftParen, RightParen, LeftBrace, RightBrace, Semicolon, Comma, Dot, Assign, Plus, Minus, Star}
-use Rattle.one_syntax.specs.Trees.{ExprTree, ExprTrees, append, none, more}
+use Rattle.one_tokens.specs.declared.token.Token.TheVariants.{Identifier, Decimal, LeftParen, RightParen, Comma, Dot, Plus, Minus, Star}
+use Rattle.one_syntax.specs.Trees.{ExprTree, ExprTrees, none, more}
 use Rattle.one_syntax.specs.Height.{expr_height}
 use Rattle.one_syntax.specs.Reading.{Read, Parts, ◌>>=◌, behind_paren, more_args_at, args_at, call_at, brackets_at, call_expr_at, primary_at, joined, factors_at, product_at, terms_at, sum_at, expr_at}
-use Rattle.one_syntax.proofs.Rules.{bind, bind_same, choose, weaken}
+use Rattle.one_syntax.proofs.Rules.{bind, choose, weaken}
 
 -- fewer tokens than these are left
 abbrev pub Less : {A : Type 0} → List Token → A × List Token → Type 0

@@ -1,5 +1,5 @@
 -- The parser's definitions, step by step.
-use Rattle.std.proofs.Common.{◌≡◌, ℕ, zero, suc, ◌-◌, ◌<◌, List, Option, Some, None, refl, arith, sub-one}
+use Rattle.std.proofs.Common.{◌≡◌, ℕ, zero, suc, ◌-◌, ◌<◌, List, None, refl, arith, sub-one}
 use Rattle.one_tokens.specs.declared.token.Token.{Token}
 use Rattle.one_syntax.specs.Reading.{sum_at, expr_at}
 

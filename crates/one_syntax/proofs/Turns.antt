@@ -1,13 +1,13 @@
 -- The loops over statements, members and parameters.
-use Rattle.std.proofs.Common.{◌≡◌, ℕ, zero, suc, ◌+◌, ◌<◌, ◌≤◌, Bool, true, false, List, [], ◌∷◌, ◌++◌, map, length, Option, Some, None, IfSome, refl, sym, ap, ◌∙◌, arith}
+use Rattle.std.proofs.Common.{◌≡◌, ℕ, zero, suc, ◌+◌, ◌<◌, ◌≤◌, Bool, true, false, List, [], ◌∷◌, ◌++◌, map, length, Some, None, IfSome, refl, sym, ◌∙◌, arith}
 use Rattle.std.proofs.lemmas.List.{map_push}
 use Rattle.je_core.specs.declared.span.NameId.{NameId}
 use Rattle.one_tokens.specs.declared.token.Token.{Token}
-use Rattle.one_tokens.specs.declared.token.Token.TheVariants.{Class, Int, Static, Return, New, Identifier, Decimal, LeftParen, RightParen, LeftBrace, RightBrace, Semicolon, Comma, Dot, Assign, Plus, Minus, Star}
+use Rattle.one_tokens.specs.declared.token.Token.TheVariants.{Int, Static, Return, New, Identifier, LeftParen, RightParen, LeftBrace, RightBrace, Semicolon, Comma, Dot, Assign}
 use Rattle.one_syntax.specs.declared.tree.Statement.{Statement}
 use Rattle.one_syntax.specs.declared.tree.Member.{Member}
-use Rattle.one_syntax.specs.Trees.{ExprTree, StatementTree, MemberTree, view_statement, view_member}
-use Rattle.one_syntax.specs.Reading.{Read, Parts, ◌>>=◌, with, behind_semicolon, behind_left_brace, behind_right_brace, call_at, expr_at, ended_at, declare_at, assign_at, perform_at, statement_at, statements_at, returned_at, body_at, more_params_at, params_at, method_at, member_at, members_at}
+use Rattle.one_syntax.specs.Trees.{StatementTree, MemberTree, view_statement, view_member}
+use Rattle.one_syntax.specs.Reading.{behind_semicolon, behind_left_brace, behind_right_brace, call_at, expr_at, ended_at, declare_at, assign_at, perform_at, statement_at, statements_at, returned_at, body_at, more_params_at, params_at, method_at, member_at, members_at}
 use Rattle.one_syntax.proofs.Rules.{bind, weaken, with_same, with_has}
 use Rattle.one_syntax.proofs.Shorter.{Less, Shortens, expr_less, call_less}
 

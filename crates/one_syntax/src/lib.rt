@@ -6,8 +6,10 @@
 #![tactic(auto)]
 
 mod expressions;
+mod front;
 mod members;
 mod statements;
 mod tree;
 
+pub use front::{MAX_HEIGHT, read, unique_tree};
 pub use tree::{Expr, Member, One, Statement};

@@ -1,4 +1,4 @@
-use Rattle.std.proofs.Common.{◌≡◌, ◌-◌, List, ◌∷◌, ◌<◌, Some, ◌∙◌, length, take, drop, rules, arith}
+use Rattle.std.proofs.Common.{◌≡◌, ◌-◌, List, ◌<◌, Some, ◌∙◌, length, take, drop, arith}
 use Rattle.std.proofs.lemmas.Grind.{common_steps}
 use Rattle.one_tokens.specs.declared.token.Token.{Token}
 use Rattle.one_syntax.specs.Trees.{view_expr}

@@ -1,4 +1,4 @@
-use Rattle.std.proofs.Common.{◌≡◌, ℕ, ◌+◌, ◌*◌, ◌<◌, ◌≤◌, length}
+use Rattle.std.proofs.Common.{◌≡◌, ◌+◌, ◌*◌, ◌<◌, ◌≤◌, length}
 use Rattle.one_syntax.specs.Trees.{view_expr, view_exprs}
 use Rattle.one_syntax.specs.Height.{expr_height, args_height}
 use Rattle.one_syntax.specs.Reading.{args_at, more_args_at, factors_at, product_at, terms_at, sum_at, expr_at}

@@ -1,4 +1,4 @@
-use Rattle.std.proofs.Common.{◌≡◌, ℕ, ◌≤◌, [], map, length}
+use Rattle.std.proofs.Common.{◌≡◌, ◌≤◌, [], map, length}
 use Rattle.one_syntax.specs.Trees.{view_statement}
 use Rattle.one_syntax.specs.Reading.{statements_at}
 use Rattle.one_syntax.proofs.statements.statements.Given as goal
