@@ -5,3 +5,4 @@ pub mod Conditions
 pub mod Elaboration
 pub mod Nodes
 pub mod Seen
+pub mod Elaborated

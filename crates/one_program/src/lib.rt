@@ -1,6 +1,7 @@
 //! The core program of a One.
 #![tactic(auto)]
 
+mod expr;
 mod names;
 mod nodes;
 mod scope;

@@ -1,0 +1,197 @@
+// Expressions.
+
+ghost use Rattle.std.specs.Prelude.{◌≡◌, ◌≤◌, IfOk, IfSome, OnSome, IfNone};
+ghost use Rattle.je_core.specs.declared.expr.BinOp.{BinOp};
+ghost use Rattle.je_java.specs.Steps.{operate};
+ghost use Rattle.one_syntax.specs.Trees.{view_expr, view_exprs, call, decimal, name as name_tree};
+ghost use Rattle.one_program.specs.Scope.{Scope};
+ghost use Rattle.one_program.specs.Conditions.{ExprFits, ArgsFit, IsIntName, greatest_int};
+ghost use Rattle.one_program.specs.Elaboration.{IsCall, AreExprs};
+ghost use Rattle.one_program.specs.Elaborated.{IsElaborated, IsNodeOf, IsJoined, IsOperation, IsPlaceNode, IsCallNode};
+
+use crate::nodes;
+use crate::scope::{Callee, Place, Scope};
+use je_core::{BinOp, Memory, NameId};
+use one_syntax::Expr;
+use std::alloc::Global;
+use std::rc::Rc;
+
+/// What an expression comes to: its value where it is constant, else its node.
+#[derive(Drop)]
+pub enum Elaborated {
+    Constant(i32),
+    Node(je_core::Expr),
+}
+
+/// What an expression comes to; None exactly where it does not fit.
+#[cycle(expr)]
+fn elaborate(alloc: Global, scope: &Scope<'_>, tree: &Expr) -> Result<Option<Elaborated>, Memory>
+    ensures is { IfOk result (λ o. IfSome o (IsElaborated scope.now (view_expr tree.now))) }
+    ensures fits { IfOk result (λ o. OnSome o (ExprFits scope.now (view_expr tree.now))) }
+    ensures none { IfOk result (λ o. IfNone o (ExprFits scope.now (view_expr tree.now) → ⊥)) }
+{
+    match tree {
+        Expr::Decimal { value } => Ok(decimal(*value)),
+        Expr::Name { name } => named(alloc, scope, *name),
+        Expr::Call {
+            receiver,
+            method,
+            args,
+        } => match called(alloc, scope, *receiver, *method, args)? {
+            Some(node) => Ok(Some(Elaborated::Node(node))),
+            None => Ok(None),
+        },
+        Expr::Brackets { inner } => elaborate(alloc, scope, inner),
+        Expr::Binary { op, left, right } => {
+            let Some(left) = elaborate(alloc, scope, left)? else {
+                return Ok(None);
+            };
+            let Some(right) = elaborate(alloc, scope, right)? else {
+                return Ok(None);
+            };
+            Ok(Some(joined(alloc, *op, left, right)?))
+        }
+    }
+}
+
+/// The call of a method; None exactly where it does not fit.
+#[cycle(expr)]
+pub fn called(
+    alloc: Global,
+    scope: &Scope<'_>,
+    receiver: Option<NameId>,
+    method: NameId,
+    args: &[Expr],
+) -> Result<Option<je_core::Expr>, Memory>
+    ensures is { IfOk result (λ o. IfSome o (IsCall scope.now receiver method (view_exprs args.now))) }
+    ensures fits { IfOk result (λ o. OnSome o (ExprFits scope.now (call receiver method (view_exprs args.now)))) }
+    ensures none { IfOk result (λ o. IfNone o (ExprFits scope.now (call receiver method (view_exprs args.now)) → ⊥)) }
+{
+    let Some(callee) = scope.callee(receiver, method, args.len()) else {
+        return Ok(None);
+    };
+    let Some(args) = nodes_of(alloc, scope, args)? else {
+        return Ok(None);
+    };
+    Ok(Some(call_node(alloc, callee, args)?))
+}
+
+/// The nodes of a call's arguments; None exactly where one does not fit.
+#[cycle(expr)]
+fn nodes_of(
+    alloc: Global,
+    scope: &Scope<'_>,
+    trees: &[Expr],
+) -> Result<Option<Vec<Rc<je_core::Expr>>>, Memory>
+    ensures are { IfOk result (λ o. IfSome o (λ nodes. AreExprs scope.now (view_exprs trees.now) nodes.items)) }
+    ensures fits { IfOk result (λ o. OnSome o (ArgsFit scope.now (view_exprs trees.now))) }
+    ensures none { IfOk result (λ o. IfNone o (ArgsFit scope.now (view_exprs trees.now) → ⊥)) }
+{
+    let mut nodes = Vec::new(alloc);
+    for tree in trees {
+        let Some(elaborated) = elaborate(alloc, scope, tree)? else {
+            return Ok(None);
+        };
+        let node = Rc::new(alloc, node_of(alloc, elaborated))?;
+        nodes.push(node)?;
+    }
+    Ok(Some(nodes))
+}
+
+fn decimal(value: u32) -> Option<Elaborated>
+    ensures is { (scope : Scope) → IfSome result (IsElaborated scope (decimal value)) }
+    ensures fits { OnSome result (value ≤ greatest_int) }
+    ensures none { IfNone result (value ≤ greatest_int → ⊥) }
+{
+    if value > i32::MAX as u32 {
+        return None;
+    }
+    Some(Elaborated::Constant(value as i32))
+}
+
+fn named(alloc: Global, scope: &Scope<'_>, name: NameId) -> Result<Option<Elaborated>, Memory>
+    ensures is { IfOk result (λ o. IfSome o (IsElaborated scope.now (name_tree name))) }
+    ensures fits { IfOk result (λ o. OnSome o (IsIntName scope.now name)) }
+    ensures none { IfOk result (λ o. IfNone o (IsIntName scope.now name → ⊥)) }
+{
+    let Some(place) = scope.int(name) else {
+        return Ok(None);
+    };
+    Ok(Some(Elaborated::Node(place_node(alloc, place)?)))
+}
+
+/// The node of an int's place.
+pub fn place_node(alloc: Global, place: Place) -> Result<je_core::Expr, Memory>
+    ensures { IfOk result (IsPlaceNode place) }
+{
+    match place {
+        Place::Local(local) => Ok(nodes::local(local, nodes::INT)),
+        Place::OwnField(field) => nodes::own_field(alloc, field),
+    }
+}
+
+fn call_node(
+    alloc: Global,
+    callee: Callee,
+    args: Vec<Rc<je_core::Expr>>,
+) -> Result<je_core::Expr, Memory>
+    ensures { IfOk result (IsCallNode callee args) }
+{
+    match callee {
+        Callee::Static(method) => Ok(nodes::static_call(method, args)),
+        Callee::Own(method) => nodes::instance_call(alloc, nodes::this(), method, args),
+        Callee::On { local, method } => {
+            let receiver = nodes::local(local, nodes::OBJECT);
+            nodes::instance_call(alloc, receiver, method, args)
+        }
+    }
+}
+
+/// An operator on two operands: their value is folded where both are constant.
+fn joined(
+    alloc: Global,
+    op: BinOp,
+    left: Elaborated,
+    right: Elaborated,
+) -> Result<Elaborated, Memory>
+    ensures { IfOk result (IsJoined op left right) }
+{
+    match left {
+        Elaborated::Node(left) => operation(alloc, op, left, node_of(alloc, right)),
+        Elaborated::Constant(x) => match right {
+            Elaborated::Node(right) => operation(alloc, op, nodes::constant(alloc, x), right),
+            Elaborated::Constant(y) => Ok(Elaborated::Constant(folded(op, x, y))),
+        },
+    }
+}
+
+fn operation(
+    alloc: Global,
+    op: BinOp,
+    left: je_core::Expr,
+    right: je_core::Expr,
+) -> Result<Elaborated, Memory>
+    ensures { IfOk result (IsOperation op left right) }
+{
+    Ok(Elaborated::Node(nodes::binary(alloc, op, left, right)?))
+}
+
+/// The value of an operator on two constants (JLS 15.17.1, 15.18.2).
+fn folded(op: BinOp, x: i32, y: i32) -> i32
+    ensures { result ≡ operate op x y }
+{
+    match op {
+        BinOp::Mul => x.wrapping_mul(y),
+        BinOp::Add => x.wrapping_add(y),
+        BinOp::Sub => x.wrapping_sub(y),
+    }
+}
+
+fn node_of(alloc: Global, elaborated: Elaborated) -> je_core::Expr
+    ensures { IsNodeOf elaborated result }
+{
+    match elaborated {
+        Elaborated::Constant(value) => nodes::constant(alloc, value),
+        Elaborated::Node(node) => node,
+    }
+}
