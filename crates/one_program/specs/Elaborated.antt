@@ -1,10 +1,12 @@
 -- What the code makes of an expression: its value where it is constant, else its node.
-use Rattle.std.specs.Prelude.{◌≡◌, ℕ, Option, Some, None}
+use Rattle.std.specs.Prelude.{◌≡◌, ℕ, List, [], ◌∷◌, ◌++◌, Option, Some, None}
 use Rattle.std.specs.declared.rc.Rc.{Rc}
 use Rattle.std.specs.declared.vec.Vec.{Vec}
 use Rattle.std.specs.declared.alloc.Global.{Global}
 use Rattle.je_core.specs.declared.expr.BinOp.{BinOp}
 use Rattle.je_core.specs.declared.expr.Expr.{Expr}
+use Rattle.je_core.specs.declared.stmt.Stmt.{Stmt}
+use Rattle.je_core.specs.declared.types.Ty.{Ty}
 use Rattle.je_java.specs.Steps.{operate}
 use Rattle.one_syntax.specs.Trees.{ExprTree}
 use Rattle.one_program.specs.declared.expr.Elaborated.{Elaborated}
@@ -14,8 +16,8 @@ use Rattle.one_program.specs.declared.scope.Callee.TheVariants as callee
 use Rattle.one_program.specs.declared.scope.Place.{Place}
 use Rattle.one_program.specs.declared.scope.Place.TheVariants as place
 use Rattle.one_program.specs.Constants.{constant_of}
-use Rattle.one_program.specs.Scope.{Scope}
-use Rattle.one_program.specs.Elaboration.{IsExpr, IsConstant, IsLocal, IsOwnField, IsThis, int_type, class_type}
+use Rattle.one_program.specs.Scope.{Scope, Variable}
+use Rattle.one_program.specs.Elaboration.{IsDo, IsAssign, IsExpr, IsConstant, IsLocal, IsOwnField, IsThis, int_type, class_type}
 use Rattle.one_program.specs.Nodes.{IsBinary, IsStaticCall, IsInstanceCall}
 
 abbrev pub IsElaborated : Scope → ExprTree → Elaborated → Type 0
@@ -48,3 +50,14 @@ abbrev pub IsCallNode : Callee → Vec (Rc Expr Global) Global → Expr → Type
 IsCallNode (callee.Static number) args node = IsStaticCall number args node
 IsCallNode (callee.Own number) args node = (this : Expr) × (IsThis this × IsInstanceCall this number args node)
 IsCallNode (callee.On local number) args node = (from : Expr) × (IsLocal local class_type from × IsInstanceCall from number args node)
+
+-- a statement that stores a value in a place
+pub record IsStored (place value : Expr) (ty : Ty) (node : Stmt) : Type 0 where
+  pub assigned : Expr
+  pub performed : IsDo node assigned
+  pub is_assign : IsAssign assigned place value ty
+
+-- the scope with the local that was declared, if one was
+abbrev pub with_declared : Scope → Option Variable → Scope
+with_declared scope None = scope
+with_declared scope (Some v) = record scope { locals = scope.locals ++ v ∷ [] }

@@ -6,7 +6,7 @@ ghost use Rattle.je_java.specs.Steps.{operate};
 ghost use Rattle.one_syntax.specs.Trees.{view_expr, view_exprs, call, decimal, name as name_tree};
 ghost use Rattle.one_program.specs.Scope.{Scope};
 ghost use Rattle.one_program.specs.Conditions.{ExprFits, ArgsFit, IsIntName, greatest_int};
-ghost use Rattle.one_program.specs.Elaboration.{IsCall, AreExprs};
+ghost use Rattle.one_program.specs.Elaboration.{IsExpr, IsCall, AreExprs};
 ghost use Rattle.one_program.specs.Elaborated.{IsElaborated, IsNodeOf, IsJoined, IsOperation, IsPlaceNode, IsCallNode};
 
 use crate::nodes;
@@ -194,4 +194,20 @@ fn node_of(alloc: Global, elaborated: Elaborated) -> je_core::Expr
         Elaborated::Constant(value) => nodes::constant(alloc, value),
         Elaborated::Node(node) => node,
     }
+}
+
+/// The node of an expression; None exactly where it does not fit.
+pub fn expression(
+    alloc: Global,
+    scope: &Scope<'_>,
+    tree: &Expr,
+) -> Result<Option<je_core::Expr>, Memory>
+    ensures is { IfOk result (λ o. IfSome o (IsExpr scope.now (view_expr tree.now))) }
+    ensures fits { IfOk result (λ o. OnSome o (ExprFits scope.now (view_expr tree.now))) }
+    ensures none { IfOk result (λ o. IfNone o (ExprFits scope.now (view_expr tree.now) → ⊥)) }
+{
+    let Some(elaborated) = elaborate(alloc, scope, tree)? else {
+        return Ok(None);
+    };
+    Ok(Some(node_of(alloc, elaborated)))
 }

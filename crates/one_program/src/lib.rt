@@ -5,3 +5,4 @@ mod expr;
 mod names;
 mod nodes;
 mod scope;
+mod stmt;

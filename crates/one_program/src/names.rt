@@ -22,6 +22,13 @@ impl Named for NameId {
     }
 }
 
+/// Whether the names are the same.
+pub fn is_same(a: NameId, b: NameId) -> bool
+    ensures { IsTrue result ↔ (a ≡ b) }
+{
+    a == b
+}
+
 /// The place of the first item of that name; None exactly where no item has it.
 pub fn place<T: Named>(name: NameId, items: &[T]) -> Option<u32>
     requires { length items.now < 2 ^ 31 }

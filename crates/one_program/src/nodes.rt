@@ -1,9 +1,10 @@
 // Nodes of the core program.
 
 ghost use Rattle.std.specs.Prelude.{◌≡◌, IfOk};
-ghost use Rattle.one_program.specs.Elaboration.{IsLocal, IsThis, IsOwnField, IsConstant, IsDo, IsAssign, IsBlock};
+ghost use Rattle.one_program.specs.Elaboration.{IsLocal, IsThis, IsOwnField, IsConstant, IsDo, IsAssign, IsNew, IsBlock};
 ghost use Rattle.one_program.specs.Nodes.{IsBinary, IsStaticCall, IsInstanceCall, IsReturn};
 
+use crate::scope::Members;
 use je_core::{Base, BinOp, ClassId, Expr, Form, Memory, Span, Stmt, StmtForm, Ty, Value};
 use std::alloc::Global;
 use std::rc::Rc;
@@ -137,6 +138,18 @@ pub fn assign(alloc: Global, place: Expr, value: Expr, ty: Ty) -> Result<Expr, M
         value: Rc::new(alloc, value)?,
     };
     Ok(expr(form, ty))
+}
+
+/// A new object of the class, made by its constructor, which stands behind its methods.
+pub fn new_object(alloc: Global, members: &Members) -> Expr
+    ensures { IsNew members.now result }
+{
+    let form = Form::New {
+        class: ONE_CLASS,
+        method: members.methods.len() as u32,
+        args: Vec::new(alloc),
+    };
+    expr(form, OBJECT)
 }
 
 fn stmt(form: StmtForm) -> Stmt

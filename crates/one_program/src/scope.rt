@@ -1,11 +1,11 @@
 // What a name means at a place of a One.
 
-ghost use Rattle.std.specs.Prelude.{◌≡◌, ℕ, Bool, ◌↔◌, IsTrue, IfSome, OnSome, IfNone};
-ghost use Rattle.one_program.specs.Scope.{local_of, field_of};
+ghost use Rattle.std.specs.Prelude.{◌≡◌, ℕ, length, Bool, ◌↔◌, IsTrue, IfSome, OnSome, IfNone};
+ghost use Rattle.one_program.specs.Scope.{local_of, field_of, inside};
 ghost use Rattle.one_program.specs.Conditions.{IsNot, IsNewName, IsIntName, IsObjectName, IsMethodOf, NamesMethod};
 ghost use Rattle.one_program.specs.Seen.{IsPlace, IsObject, IsCallee};
 
-use crate::names::{Named, is_not, place};
+use crate::names::{Named, is_not, is_same, place};
 use je_core::NameId;
 use std::marker::Model;
 
@@ -67,6 +67,7 @@ impl Model for Members {
 }
 
 /// What is in scope at a place of a method.
+#[derive(Drop)]
 pub struct Scope<'a> {
     pub members: &'a Members,
     /// Whether the method is static.
@@ -94,6 +95,74 @@ impl<'a> Model for Scope<'a> {
     } };
 
     ghost invariant = { λ s. (length s.locals.now < 2 ^ 31) × (length s.objects.now < 2 ^ 31) };
+}
+
+/// What is in scope before a statement, or before what a method returns.
+#[derive(Drop)]
+pub struct BodyScope<'a> {
+    pub members: &'a Members,
+    pub is_static: bool,
+    pub locals: &'a [Variable],
+    pub objects: &'a [NameId],
+}
+
+impl<'a> Model for BodyScope<'a> {
+    ghost use Rattle.std.specs.Prelude.{◌<◌, ◌^◌, length};
+    ghost use Rattle.one_program.specs.Scope.{Scope as ScopeOf};
+
+    ghost Value = { ScopeOf };
+
+    ghost view = { λ s. record {
+        members = s.members.now;
+        is_static = s.is_static;
+        locals = s.locals.now;
+        barred = s.objects.now;
+    } };
+
+    ghost invariant = { λ s. (length s.locals.now < 2 ^ 31) × (length s.objects.now < 2 ^ 31) };
+}
+
+impl<'a> BodyScope<'a> {
+    /// The scope of an expression.
+    pub fn scope(&self) -> Scope<'a>
+        ensures { result ≡ self.now }
+    {
+        Scope {
+            members: self.members,
+            is_static: self.is_static,
+            locals: self.locals,
+            objects: self.objects,
+            initialized: None,
+        }
+    }
+
+    /// The scope of the initializer of the local of that name.
+    pub fn inside(&self, name: NameId) -> Scope<'a>
+        ensures { result ≡ inside self.now name }
+    {
+        Scope {
+            members: self.members,
+            is_static: self.is_static,
+            locals: self.locals,
+            objects: self.objects,
+            initialized: Some(name),
+        }
+    }
+
+    /// The number of the local that is declared next.
+    pub fn next(&self) -> u32
+        ensures { result ≡ length self.now.locals }
+    {
+        self.locals.len() as u32
+    }
+
+    /// Whether the class has that name.
+    pub fn is_class(&self, name: NameId) -> bool
+        ensures { IsTrue result ↔ (name ≡ self.now.members.class) }
+    {
+        let members = self.members;
+        is_same(name, members.class)
+    }
 }
 
 /// Where the int of a name is.
