@@ -13,8 +13,8 @@ use Rattle.je_top.specs.Texts.{usage_text, missing_text, too_long_text, read_tex
 use Rattle.je_top.specs.Words.{file_to_run}
 
 -- the file that a command line asks to run
-abbrev pub asked : List (String Global) → Option (List ℕ)
-asked words = file_to_run (map string_bytes words)
+abbrev pub asked_file : List (String Global) → Option (List ℕ)
+asked_file words = file_to_run (map string_bytes words)
 
 -- the name that is asked for isn't held
 abbrev pub AsksForNone : Option (List ℕ) → Held → Type 0

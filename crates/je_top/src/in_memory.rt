@@ -1,6 +1,6 @@
 // Files and a sink in memory. They tell all, and fail where they are told to.
 
-ghost use Rattle.std.specs.Prelude.{◌≡◌, Some, [], string_bytes};
+ghost use Rattle.std.specs.Prelude.{◌≡◌, ◌+◌, ◌-◌, ◌^◌, ◌↔◌, [], min, IsTrue, Contains, Some, string_bytes};
 ghost use Rattle.je_top.specs.InMemory.{files_of};
 
 use crate::FILE_LIMIT;
@@ -9,13 +9,39 @@ use crate::sink::{Sink, SinkFault};
 use std::alloc::Global;
 use std::collections::BTreeMap;
 
+/// The numbers, from 1, of the calls that are to fail, and how many calls were made: at most the greatest u64.
+#[derive(Drop)]
+struct Calls {
+    to_fail: Vec<u64>,
+    made: u64,
+}
+
+impl Calls {
+    /// No call was made.
+    fn new(to_fail: Vec<u64>) -> Self
+        ensures to_fail { result.to_fail ≡ to_fail }
+        ensures made { result.made ≡ 0 }
+    {
+        Calls { to_fail, made: 0 }
+    }
+
+    /// Counts a call, and says whether it is to fail.
+    fn next_fails(&mut self) -> bool
+        ensures counted { self.new.made ≡ min (self.old.made + 1) (2 ^ 64 - 1) }
+        ensures fails { IsTrue result ↔ Contains self.old.to_fail.items self.new.made }
+        ensures to_fail { self.new.to_fail ≡ self.old.to_fail }
+    {
+        self.made = self.made.saturating_add(1);
+        self.to_fail.contains(&self.made)
+    }
+}
+
 /// Files that stand in memory.
 #[derive(Drop)]
 pub struct MemFiles {
     alloc: Global,
     held: BTreeMap<String, Vec<u8>>,
-    fails: Vec<u64>,
-    reads: u64,
+    reads: Calls,
     faults: u64,
     last: String,
 }
@@ -32,8 +58,7 @@ impl MemFiles {
         MemFiles {
             alloc,
             held,
-            fails,
-            reads: 0,
+            reads: Calls::new(fails),
             faults: 0,
             last: String::new(alloc),
         }
@@ -47,15 +72,15 @@ impl Files for MemFiles {
 
     ghost last = { λ s. string_bytes s.last };
 
-    ghost is_calm = { λ s. s.fails.items ≡ [] };
+    ghost is_calm = { λ s. s.reads.to_fail.items ≡ [] };
 
     fn read(&mut self, name: &str, into: &mut Vec<u8>) -> Result<(), FileFault> {
         into.clear();
-        self.reads = self.reads.saturating_add(1);
+        let fails = self.reads.next_fails();
         let Some(bytes) = self.held.get(name) else {
             return Err(FileFault::NotThere);
         };
-        if self.fails.contains(&self.reads) {
+        if fails {
             let Ok(name) = String::from_str(self.alloc, name) else {
                 return Err(FileFault::Memory);
             };
@@ -81,8 +106,7 @@ impl Files for MemFiles {
 #[derive(Drop)]
 pub struct MemSink {
     taken: Vec<u8>,
-    fails: Vec<u64>,
-    puts: u64,
+    puts: Calls,
     faults: u64,
 }
 
@@ -96,8 +120,7 @@ impl MemSink {
     {
         MemSink {
             taken: Vec::new(alloc),
-            fails,
-            puts: 0,
+            puts: Calls::new(fails),
             faults: 0,
         }
     }
@@ -115,11 +138,10 @@ impl Sink for MemSink {
 
     ghost faults = { λ s. s.faults };
 
-    ghost is_calm = { λ s. s.fails.items ≡ [] };
+    ghost is_calm = { λ s. s.puts.to_fail.items ≡ [] };
 
     fn put(&mut self, piece: &[u8]) -> Result<(), SinkFault> {
-        self.puts = self.puts.saturating_add(1);
-        if self.fails.contains(&self.puts) {
+        if self.puts.next_fails() {
             self.faults = self.faults.saturating_add(1);
             return Err(SinkFault::Failed);
         }

@@ -1,6 +1,11 @@
-//! The top call and what it stands on: files by name, a sink of text, statuses and the command line.
+//! The top call `joee` and what it stands on: files by name, a sink of text, statuses and the command line.
 //!
-//! `Files` and `Sink` are how a program reaches the outside. Contracts see of files what is held (the bytes of each
+//! `joee(alloc, &words, &mut files, &mut out)` does what the words of a command line say, puts its text to `out` and
+//! answers a `Status`, whose `number` a program ends with. Its clauses say which status comes exactly where, which
+//! text is put for it, and that a fault comes only where a count of faults rose. What the program comes to is a
+//! definition, `specs/Outcome.antt`, over what the words ask for and what the files hold; the code is not in it.
+//!
+//! `Files` and `Sink` are how the call reaches the outside. Contracts see of files what is held (the bytes of each
 //! name, where that is told), a count of faults and the name of the last read that failed; and of a sink the bytes
 //! that it took (where that is told) and a count of faults. `MemFiles` and `MemSink` tell all. `RealFiles` and
 //! `RealSink`, over the system's files and standard output, tell nothing: they are the trusted edge.

@@ -2,7 +2,7 @@
 
 ghost use Rattle.std.specs.Prelude.{◌≡◌, ◌≤◌, IfOk, IfSome};
 ghost use Rattle.je_top.specs.Counts.{Rose, Grew};
-ghost use Rattle.je_top.specs.Outcome.{asked, IsOwed, IsOwedForName, IsOwedForBytes};
+ghost use Rattle.je_top.specs.Outcome.{asked_file, IsOwed, IsOwedForName, IsOwedForBytes};
 
 use crate::files::{FileFault, Files};
 use crate::one::{Answer, answer_of};
@@ -26,8 +26,8 @@ pub fn outcome_of<F: Files>(
     files: &mut F,
 ) -> Result<Outcome, Memory>
     ensures owed { IfOk result (λ o. IsOwed (F.held files.old) (Rose (F.faults files.old) (F.faults files.new))
-        (asked words.now) o.status o.text.items) }
-    ensures last { IfOk result (λ o. o.status ≡ Status.ReadFault → asked words.now ≡ Some (F.last files.new)) }
+        (asked_file words.now) o.status o.text.items) }
+    ensures last { IfOk result (λ o. o.status ≡ Status.ReadFault → asked_file words.now ≡ Some (F.last files.new)) }
     ensures grew { IfOk result (λ o. IfSome (F.held files.old) (λ _.
         Grew (F.faults files.old) (F.faults files.new) → o.status ≡ Status.ReadFault)) }
     ensures held { F.held files.new ≡ F.held files.old }

@@ -2,7 +2,7 @@
 
 ghost use Rattle.std.specs.Prelude.{◌≡◌, ◌⊎◌};
 ghost use Rattle.je_top.specs.InMemory.{files_of};
-ghost use Rattle.je_top.specs.Outcome.{asked, AsksFor, CanRun};
+ghost use Rattle.je_top.specs.Outcome.{asked_file, AsksFor, CanRun};
 
 use crate::{
     FILE_LIMIT, FileFault, Files, MemFiles, MemSink, RealFiles, RealSink, Sink, Status, joee,
@@ -23,7 +23,7 @@ const USAGE: &str = "usage: joee check TAMING FILE... | run TAMING SCRIPT FILE..
 
 /// A One that is held runs, or memory is wanting: neither these files nor this sink ever fails.
 fn run_held(alloc: Global, words: &[String], held: BTreeMap<String, Vec<u8>>) -> Status
-    requires { AsksFor (asked words.now) (files_of held) CanRun }
+    requires { AsksFor (asked_file words.now) (files_of held) CanRun }
     ensures { (result ≡ Status.Ok) ⊎ (result ≡ Status.Memory) }
 {
     let mut files = MemFiles::new(alloc, held, Vec::new(alloc));

@@ -3,7 +3,7 @@
 ghost use Rattle.std.specs.Prelude.{◌≡◌, ◌≤◌, ◌↔◌, ◌⊎◌, IfSome, IfNone};
 ghost use Rattle.je_top.specs.Counts.{Rose, Grew};
 ghost use Rattle.je_top.specs.Files.{IsTooLong};
-ghost use Rattle.je_top.specs.Outcome.{asked, AsksForNone, AsksFor, CanRun, CannotRun, UnlessCut, UnlessFailed, Puts, PutsFront};
+ghost use Rattle.je_top.specs.Outcome.{asked_file, AsksForNone, AsksFor, CanRun, CannotRun, UnlessCut, UnlessFailed, Puts, PutsFront};
 
 use crate::files::Files;
 use crate::outcome::outcome_of;
@@ -24,26 +24,26 @@ pub fn joee<F: Files, O: Sink>(
 ) -> Status
     // What was put.
     ensures text { UnlessCut result (Puts (F.held files.old) (Rose (F.faults files.old) (F.faults files.new))
-        (asked words.now) result (O.taken out.old) (O.taken out.new)) }
+        (asked_file words.now) result (O.taken out.old) (O.taken out.new)) }
     ensures front { result ≡ Status.WriteFault
         → PutsFront (F.held files.old) (Rose (F.faults files.old) (F.faults files.new))
-        (asked words.now) (O.taken out.old) (O.taken out.new) }
+        (asked_file words.now) (O.taken out.old) (O.taken out.new) }
     ensures memory { result ≡ Status.Memory → O.taken out.new ≡ O.taken out.old }
 
     // Where each status comes, over files that tell.
-    ensures usage { UnlessCut result ((result ≡ Status.Usage) ↔ (asked words.now ≡ None)) }
+    ensures usage { UnlessCut result ((result ≡ Status.Usage) ↔ (asked_file words.now ≡ None)) }
     ensures not_there { UnlessCut result (IfSome (F.held files.old) (λ told.
-        (result ≡ Status.NotThere) ↔ AsksForNone (asked words.now) told)) }
+        (result ≡ Status.NotThere) ↔ AsksForNone (asked_file words.now) told)) }
     ensures too_long { UnlessFailed result (IfSome (F.held files.old) (λ told.
-        (result ≡ Status.TooLong) ↔ AsksFor (asked words.now) told IsTooLong)) }
+        (result ≡ Status.TooLong) ↔ AsksFor (asked_file words.now) told IsTooLong)) }
     ensures not_built { UnlessFailed result (IfSome (F.held files.old) (λ told.
-        (result ≡ Status.NotBuilt) ↔ AsksFor (asked words.now) told CannotRun)) }
+        (result ≡ Status.NotBuilt) ↔ AsksFor (asked_file words.now) told CannotRun)) }
     ensures ok { UnlessFailed result (IfSome (F.held files.old) (λ told.
-        (result ≡ Status.Ok) ↔ AsksFor (asked words.now) told CanRun)) }
+        (result ≡ Status.Ok) ↔ AsksFor (asked_file words.now) told CanRun)) }
 
     // Faults come only where a count rose, and where one grew nothing else comes.
     ensures read_fault { result ≡ Status.ReadFault → Rose (F.faults files.old) (F.faults files.new) }
-    ensures last { result ≡ Status.ReadFault → asked words.now ≡ Some (F.last files.new) }
+    ensures last { result ≡ Status.ReadFault → asked_file words.now ≡ Some (F.last files.new) }
     ensures read_grew { IfSome (F.held files.old) (λ _. Grew (F.faults files.old) (F.faults files.new)
         → UnlessCut result (result ≡ Status.ReadFault)) }
     ensures not_there_untold { result ≡ Status.NotThere
@@ -54,7 +54,7 @@ pub fn joee<F: Files, O: Sink>(
     ensures write_grew { Grew (O.faults out.old) (O.faults out.new) → result ≡ Status.WriteFault }
 
     // A One that is held runs, where no count of faults rose.
-    ensures completes { IfSome (F.held files.old) (λ told. AsksFor (asked words.now) told CanRun
+    ensures completes { IfSome (F.held files.old) (λ told. AsksFor (asked_file words.now) told CanRun
         → ¬ Rose (F.faults files.old) (F.faults files.new)
         → ¬ Rose (O.faults out.old) (O.faults out.new)
         → (result ≡ Status.Ok) ⊎ (result ≡ Status.Memory)) }

@@ -1,5 +1,4 @@
 -- A file that was read whole owes what its bytes owe.
-use Rattle.std.proofs.Common.{rules}
 use Rattle.std.proofs.lemmas.Result.{IfOk-weaker}
 use Rattle.je_top.specs.declared.outcome.Outcome.{Outcome}
 use Rattle.je_top.proofs.OwedLemmas.{owed_for_name}
