@@ -1,0 +1,6 @@
+pub mod Types
+pub mod Trees
+pub mod View
+pub mod Height
+pub mod Size
+pub mod Spans

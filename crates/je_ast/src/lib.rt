@@ -1,0 +1,20 @@
+//! Java's source trees: what the parser gives and what typing reads, one variant for each production of the grammar.
+//!
+//! Contracts never look at a tree in memory itself, since it has boxes and vectors. They see it through a view without
+//! them: `view` of an expression, `statement_view`, `member_view`, `declaration_view`, `unit_view` (`specs/View.antt`),
+//! which give the types of `specs/Trees.antt`. Over these stand `height`, `size` and `span_of` with their kin.
+#![tactic(auto)]
+
+mod decl;
+mod expr;
+mod name;
+mod operator;
+mod stmt;
+mod ty_name;
+
+pub use decl::{ConstructorCall, Decl, Formal, Member, Modifier, ModifierKind, TypeParam, Unit};
+pub use expr::{Expr, Literal};
+pub use name::{Identifier, Name};
+pub use operator::{BinaryOp, PostfixOp, PrefixOp};
+pub use stmt::{Block, Catch, ForInit, Group, Label, Stmt, Var};
+pub use ty_name::{Primitive, TyName};
