@@ -1,0 +1,6 @@
+pub mod Tokens
+pub mod Operators
+pub mod Types
+pub mod Context
+pub mod Grammar
+pub mod Rows
