@@ -1,0 +1,9 @@
+pub mod Safe
+pub mod Values
+pub mod Typing
+pub mod Kept
+pub mod Sound
+pub mod Names
+pub mod Typed
+pub mod Program
+pub mod NeverWrong

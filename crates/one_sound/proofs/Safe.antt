@@ -1,0 +1,254 @@
+-- What evaluation keeps, whatever it is: an invariant of states, and computations that keep it and come to a fine answer.
+use Rattle.std.proofs.Common.{◌≡◌, ℕ, zero, suc, ◌-◌, List, [], ◌∷◌, ◌++◌, length, Option, Some, refl}
+use Rattle.std.specs.Prelude.{Bool, true, false, ℤ, nat_le, if◌then◌else◌, slice_get, slice_set}
+use Rattle.std.specs.declared.rc.Rc.{Rc}
+use Rattle.std.specs.declared.alloc.Global.{Global}
+use Rattle.je_core.specs.Defaults.{default_of}
+use Rattle.je_core.specs.declared.expr.BinOp.{BinOp}
+use Rattle.je_core.specs.declared.object.Obj.{Obj}
+use Rattle.je_core.specs.declared.object.Obj.TheVariants.{Instance}
+use Rattle.je_core.specs.declared.program.Method.{Method}
+use Rattle.je_core.specs.declared.program.Program.{Program}
+use Rattle.je_core.specs.declared.stmt.Stmt.{Stmt}
+use Rattle.je_core.specs.declared.types.ClassId.{ClassId}
+use Rattle.je_core.specs.declared.value.ObjId.{ObjId}
+use Rattle.je_core.specs.declared.value.Value.{Value}
+use Rattle.je_core.specs.declared.value.Value.TheVariants.{Int, Ref}
+use Rattle.je_java.specs.Classes.{fresh_slots, field_slot, locals_for}
+use Rattle.je_java.specs.World.{class_of, slot_of, with_slot}
+use Rattle.je_java.specs.Steps.{State, Own, Answer, Spent, Run, Nothing, Exits, Computation, ret, bind, seq, yields, spent, throw, leave, need, framed, with_own, with_objects, with_units, tick, tick_at, charge, get_this, get_local, put_local, get_class, get_slot, put_slot, new_object, make, deref, operate, binary, read_field, write_field}
+use Rattle.je_java.specs.Meaning.{Meanings, run_method}
+
+-- what holds of states between the steps
+pub record Invariant : Type 1 where
+  -- what is known of the objects made so far, and what it may grow to
+  pub Time : Type 0
+  pub Later : Time → Time → Type 0
+  pub same : (t : Time) → Later t t
+  pub join : {t u v : Time} → Later t u → Later u v → Later t v
+  -- what is known of a body's own variables at a place of it
+  pub Context : Type 0
+  pub ObjectsFit : Time → List Obj → Type 0
+  pub OwnFits : Time → Context → Own → Type 0
+  pub keeps_own : {t u : Time} {c : Context} {own : Own} → Later t u → OwnFits t c own → OwnFits u c own
+  -- the exceptions that may be thrown
+  pub Throws : Time → ObjId → Type 0
+  -- how a run may end
+  pub Fine : Answer → Type 0
+  pub spent_is_fine : (s : State) → Fine (Spent s)
+
+module _ (I : Invariant) where
+  -- what is known of a value at a time
+  abbrev pub Known : Type 0 → Type 1
+  Known A = I.Time → A → Type 0
+
+  pub record StateFits (t : I.Time) (c : I.Context) (s : State) : Type 0 where
+    pub objects : I.ObjectsFit t s.objects
+    pub own : I.OwnFits t c s.own
+
+  -- a run that goes on well with what is known of its value, at any later time
+  pub record GoesOn {A : Type 0} (t : I.Time) (c : I.Context) (Q : Known A) (go : A → Run) : Type 0 where
+    pub from : (u : I.Time) → I.Later t u → (a : A) → Q u a → (s : State) → StateFits u c s → I.Fine (go a s)
+
+  -- ways out that go on well from any own variables, with the values that a body returns
+  pub record ExitsFit (t : I.Time) (L : Known Value) (exits : Exits) : Type 0 where
+    pub leave : (u : I.Time) → I.Later t u → (value : Value) → L u value → (s : State) → I.ObjectsFit u s.objects → I.Fine (exits.leave value s)
+    pub throw : (u : I.Time) → I.Later t u → (exception : ObjId) → I.Throws u exception → (s : State) → I.ObjectsFit u s.objects → I.Fine (exits.throw exception s)
+
+  -- a computation that is fine from a time and a context on: it goes from that context to another, gives values of
+  -- which Q is known, and leaves its body with values of which L is known
+  pub record Safe {A : Type 0} (L : Known Value) (t : I.Time) (c d : I.Context) (Q : Known A) (m : Computation A) : Type 0 where
+    pub run : (go : A → Run) (exits : Exits) → GoesOn t d Q go → ExitsFit t L exits → (s : State) → StateFits t c s → I.Fine (m go exits s)
+
+-- of which nothing is known
+pub record Any {T A : Type 0} (t : T) (a : A) : Type 0 where
+
+module _ {I : Invariant} where
+  later-exits : {t u : I.Time} {L : Known I Value} {exits : Exits} → I.Later t u → ExitsFit I t L exits → ExitsFit I u L exits
+  later-exits e out = record {
+    leave = λ v f. out.leave v (I.join e f);
+    throw = λ v f. out.throw v (I.join e f);
+  }
+
+  later-on : {A : Type 0} {t u : I.Time} {c : I.Context} {Q : Known I A} {go : A → Run} → I.Later t u → GoesOn I t c Q go → GoesOn I u c Q go
+  later-on e on = record { from = λ v f. on.from v (I.join e f) }
+
+  -- combinators
+
+  pub safe-ret : {A : Type 0} {L : Known I Value} {t : I.Time} {c : I.Context} {Q : Known I A} (a : A) → Q t a → Safe I L t c c Q (ret a)
+  unfolding ret
+  safe-ret {t = t} a q = record { run = λ go exits on out. on.from t (I.same t) a q }
+
+  pub safe-bind : {A B : Type 0} {L : Known I Value} {t : I.Time} {c d e : I.Context} {P : Known I A} {Q : Known I B} {m : Computation A} {f : A → Computation B} →
+      Safe I L t c d P m → ((u : I.Time) → I.Later t u → (a : A) → P u a → Safe I L u d e Q (f a)) → Safe I L t c e Q (bind m f)
+  unfolding bind
+  safe-bind p r = record {
+    run = λ go exits on out. p.run _ exits
+        (record { from = λ u l a q. (r u l a q).run go exits (later-on l on) (later-exits l out) }) out;
+  }
+
+  pub safe-seq : {A B : Type 0} {L : Known I Value} {t : I.Time} {c d e : I.Context} {P : Known I A} {Q : Known I B} {m : Computation A} {n : Computation B} →
+      Safe I L t c d P m → ((u : I.Time) → I.Later t u → Safe I L u d e Q n) → Safe I L t c e Q (seq m n)
+  unfolding seq
+  safe-seq p r = record {
+    run = λ go exits on out. p.run _ exits
+        (record { from = λ u l a q. (r u l).run go exits (later-on l on) (later-exits l out) }) out;
+  }
+
+  pub safe-yields : {L : Known I Value} {t : I.Time} {c d : I.Context} {P Q : Known I Value} {m : Computation Value} (value : Value) →
+      Safe I L t c d P m → ((u : I.Time) → I.Later t u → Q u value) → Safe I L t c d Q (yields value m)
+  unfolding yields
+  safe-yields value p r = record { run = λ go exits on out. p.run _ exits (record { from = λ u l a q. on.from u l value (r u l) }) out }
+
+  pub safe-spent : {A : Type 0} {L : Known I Value} {t : I.Time} {c d : I.Context} {Q : Known I A} → Safe I L t c d Q spent
+  unfolding spent
+  safe-spent = record { run = λ go exits on out s fits. I.spent_is_fine s }
+
+  pub safe-throw : {A : Type 0} {L : Known I Value} {t : I.Time} {c d : I.Context} {Q : Known I A} (exception : ObjId) → I.Throws t exception → Safe I L t c d Q (throw exception)
+  unfolding throw
+  safe-throw {t = t} exception q = record { run = λ go exits on out s fits. out.throw t (I.same t) exception q s fits.objects }
+
+  pub safe-leave : {A : Type 0} {L : Known I Value} {t : I.Time} {c d : I.Context} {Q : Known I A} (value : Value) → L t value → Safe I L t c d Q (leave value)
+  unfolding leave
+  safe-leave {t = t} value q = record { run = λ go exits on out s fits. out.leave t (I.same t) value q s fits.objects }
+
+  -- what is needed is there
+  pub safe-need : {A B : Type 0} {L : Known I Value} {t : I.Time} {c d : I.Context} {Q : Known I B} {option : Option A} {a : A} (f : A → Computation B) →
+      option ≡ Some a → Safe I L t c d Q (f a) → Safe I L t c d Q (bind (need option) f)
+  unfolding bind need
+  safe-need f e p = rw e (record { run = λ go exits on out. p.run go exits on out })
+
+  -- a body in a context of its own, which leaves with values as those that the call gives, or comes to its end
+  pub safe-framed : {L P Q : Known I Value} {t : I.Time} {c d e : I.Context} {m : Computation Nothing} (own : Own) (ends : Value) →
+      I.OwnFits t d own → Safe I P t d e Any m → ((u : I.Time) (value : Value) → P u value → Q u value) → ((u : I.Time) → I.Later t u → Q u ends) →
+      Safe I L t c c Q (framed own ends m)
+  unfolding framed
+  safe-framed own ends f p gives q = record {
+    run = λ go exits on out s fits. p.run _ _
+        (record { from = λ u l a r t' fits'. on.from u l ends (q u l) (with_own t' s.own) (record { objects = fits'.objects; own = I.keeps_own l fits.own }) })
+        (record {
+          leave = λ u l value r t' objects. on.from u l value (gives u value r) (with_own t' s.own) (record { objects = objects; own = I.keeps_own l fits.own });
+          throw = λ u l exception r t' objects. out.throw u l exception r (with_own t' s.own) objects;
+        })
+        (with_own s own) (record { objects = fits.objects; own = f });
+  }
+
+  -- steps, by what the invariant says of the part of the state that each looks at
+
+  pub safe-tick : {L : Known I Value} {t : I.Time} {c : I.Context} → Safe I L t c c Any tick
+  unfolding tick
+  safe-tick {t = t} {c = c} = record { run = λ go exits on out s fits. by s.public.units go s (λ s' fits'. on.from t (I.same t) tt (record {}) s' fits') fits }
+    where
+      by : (units : ℕ) (go : Nothing → Run) (s : State) → ((s' : State) → StateFits I t c s' → I.Fine (go tt s')) → StateFits I t c s → I.Fine (tick_at units go s)
+      by zero go s on fits = I.spent_is_fine s
+      by (suc units) go s on fits = on _ (record { objects = fits.objects; own = fits.own })
+
+  pub safe-charge : {L : Known I Value} {t : I.Time} {c : I.Context} (cost : ℕ) → Safe I L t c c Any (charge cost)
+  unfolding charge
+  safe-charge {t = t} {c = c} cost = record {
+    run = λ go exits on out s fits.
+        by (nat_le cost s.public.units) (on.from t (I.same t) tt (record {}) (with_units s (s.public.units - cost)) (record { objects = fits.objects; own = fits.own })) (I.spent_is_fine s);
+  }
+    where
+      by : (b : Bool) {x y : Answer} → I.Fine x → I.Fine y → I.Fine (if b then x else y)
+      by true p q = p
+      by false p q = q
+
+  pub safe-get_this : {L : Known I Value} {t : I.Time} {c : I.Context} {Q : Known I Value} → ((own : Own) → I.OwnFits t c own → Q t own.this) → Safe I L t c c Q get_this
+  unfolding get_this
+  safe-get_this {t = t} q = record { run = λ go exits on out s fits. on.from t (I.same t) _ (q s.own fits.own) s fits }
+
+  pub safe-get_local : {L : Known I Value} {t : I.Time} {c : I.Context} {Q : Known I Value} (at : ℕ) →
+      ((own : Own) → I.OwnFits t c own → (value : Value) × (slice_get own.locals at ≡ Some value) × Q t value) → Safe I L t c c Q (get_local at)
+  unfolding get_local
+  safe-get_local {t = t} at q = record {
+    run = λ go exits on out s fits.
+        let found = q s.own fits.own in
+        rw found.1 (on.from t (I.same t) found.0 found.2 s fits);
+  }
+
+  pub safe-put_local : {L : Known I Value} {t : I.Time} {c d : I.Context} {Q : Known I Value} (at : ℕ) (value : Value) →
+      ((own : Own) → I.OwnFits t c own → (old : Value) × (slice_get own.locals at ≡ Some old) × I.OwnFits t d (record own { locals = slice_set own.locals at value })) →
+      Q t value → Safe I L t c d Q (put_local at value)
+  unfolding put_local
+  safe-put_local {t = t} at value q r = record {
+    run = λ go exits on out s fits.
+        let found = q s.own fits.own in
+        rw found.1 (on.from t (I.same t) value r (with_own s (record s.own { locals = slice_set s.own.locals at value })) (record { objects = fits.objects; own = found.2 }));
+  }
+
+  pub safe-get_class : {L : Known I Value} {t : I.Time} {c : I.Context} {Q : Known I ClassId} (object : ObjId) (class : ClassId) →
+      ((objects : List Obj) → I.ObjectsFit t objects → class_of objects object.0 ≡ Some class) → Q t class → Safe I L t c c Q (get_class object)
+  unfolding get_class
+  safe-get_class {t = t} object class q r = record { run = λ go exits on out s fits. rw (q s.objects fits.objects) (on.from t (I.same t) class r s fits) }
+
+  pub safe-get_slot : {L : Known I Value} {t : I.Time} {c : I.Context} {Q : Known I Value} (object : ObjId) (at : ℕ) →
+      ((objects : List Obj) → I.ObjectsFit t objects → (value : Value) × (slot_of objects object.0 at ≡ Some value) × Q t value) → Safe I L t c c Q (get_slot object at)
+  unfolding get_slot
+  safe-get_slot {t = t} object at q = record {
+    run = λ go exits on out s fits.
+        let found = q s.objects fits.objects in
+        rw found.1 (on.from t (I.same t) found.0 found.2 s fits);
+  }
+
+  pub safe-put_slot : {L : Known I Value} {t : I.Time} {c : I.Context} {Q : Known I Value} (object : ObjId) (at : ℕ) (value : Value) →
+      ((objects : List Obj) → I.ObjectsFit t objects → (old : Value) × (slot_of objects object.0 at ≡ Some old) × I.ObjectsFit t (with_slot objects object.0 at value)) →
+      Q t value → Safe I L t c c Q (put_slot object at value)
+  unfolding put_slot
+  safe-put_slot {t = t} object at value q r = record {
+    run = λ go exits on out s fits.
+        let found = q s.objects fits.objects in
+        rw found.1 (on.from t (I.same t) value r (with_objects s (with_slot s.objects object.0 at value)) (record { objects = found.2; own = fits.own }));
+  }
+
+  -- what is known of the objects grows by the new one
+  pub safe-new_object : {L : Known I Value} {t : I.Time} {c : I.Context} {Q : Known I ObjId} (object : Obj) →
+      ((objects : List Obj) → I.ObjectsFit t objects → (u : I.Time) × I.Later t u × I.ObjectsFit u (objects ++ object ∷ []) × Q u (record { 0 = length objects })) →
+      Safe I L t c c Q (new_object object)
+  unfolding new_object
+  safe-new_object object q = record {
+    run = λ go exits on out s fits.
+        let made = q s.objects fits.objects in
+        on.from made.0 made.1 (record { 0 = length s.objects }) made.3 (with_objects s (s.objects ++ object ∷ [])) (record { objects = made.2; own = I.keeps_own made.1 fits.own });
+  }
+
+  -- steps made of these
+
+  pub safe-binary : {L : Known I Value} {t : I.Time} {c : I.Context} {Q : Known I Value} (op : BinOp) (x y : ℤ) → Q t (Int (operate op x y)) → Safe I L t c c Q (binary op (Int x) (Int y))
+  unfolding binary
+  safe-binary op x y q = safe-need _ refl (safe-need _ refl (safe-ret (Int (operate op x y)) q))
+
+  -- of a reference there is the object
+  pub safe-deref : {B : Type 0} {L : Known I Value} {t : I.Time} {c d : I.Context} {Q : Known I B} (program : Program) (object : ObjId) (f : ObjId → Computation B) →
+      Safe I L t c d Q (f object) → Safe I L t c d Q (bind (deref program (Ref object)) f)
+  unfolding deref bind ret
+  safe-deref program object f p = record { run = λ go exits on out. p.run go exits on out }
+
+  pub safe-read_field : {L : Known I Value} {t : I.Time} {c : I.Context} {Q : Known I Value} {slot : ℕ} (program : Program) (class : ClassId) (field : ℕ) (object : ObjId) →
+      field_slot program class field ≡ Some slot →
+      ((objects : List Obj) → I.ObjectsFit t objects → (value : Value) × (slot_of objects object.0 slot ≡ Some value) × Q t value) →
+      Safe I L t c c Q (read_field program class field (Ref object))
+  unfolding read_field
+  safe-read_field program class field object e q = safe-deref _ object _ (safe-need _ e (safe-get_slot object _ q))
+
+  pub safe-write_field : {L : Known I Value} {t : I.Time} {c : I.Context} {Q : Known I Value} {slot : ℕ} (program : Program) (class : ClassId) (field : ℕ) (object : ObjId) (value : Value) →
+      field_slot program class field ≡ Some slot →
+      ((objects : List Obj) → I.ObjectsFit t objects → (old : Value) × (slot_of objects object.0 slot ≡ Some old) × I.ObjectsFit t (with_slot objects object.0 slot value)) →
+      Q t value → Safe I L t c c Q (write_field program class field (Ref object) value)
+  unfolding write_field
+  safe-write_field program class field object value e q r = safe-deref _ object _ (safe-need _ e (safe-put_slot object _ value q r))
+
+  pub safe-make : {L : Known I Value} {t : I.Time} {c : I.Context} {Q : Known I ObjId} {slots : List Value} (program : Program) (class : ClassId) →
+      fresh_slots program class ≡ Some slots →
+      ((u : I.Time) → I.Later t u → (objects : List Obj) → I.ObjectsFit u objects →
+      (v : I.Time) × I.Later u v × I.ObjectsFit v (objects ++ Instance class slots ∷ []) × Q v (record { 0 = length objects })) →
+      Safe I L t c c Q (make program class)
+  unfolding make
+  safe-make {slots = slots} program class e q = safe-need _ e (safe-seq (safe-charge (length slots)) λ u l. safe-new_object _ (q u l))
+
+  -- a method's body, with its receiver and its arguments
+  pub safe-run_method : {L P Q : Known I Value} {t : I.Time} {c d e : I.Context} {block : Rc Stmt Global} (m : Meanings) (method : Method) (this : Value) (given : List Value) →
+      method.body ≡ Some block → I.OwnFits t d (record { this = this; locals = locals_for method given }) → Safe I P t d e Any (m.exec block.value) →
+      ((u : I.Time) (value : Value) → P u value → Q u value) → ((u : I.Time) → I.Later t u → Q u (default_of method.returns)) →
+      Safe I L t c c Q (run_method m method this given)
+  safe-run_method m method this given b f p gives q = safe-need _ b (safe-framed _ _ f p gives q)

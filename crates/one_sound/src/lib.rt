@@ -1,0 +1,32 @@
+//! Evaluation of a One goes well: laws over the definitions alone, with no code that runs.
+//!
+//! `never_wrong` says how the call of `main` ends, by `specs/Replies.antt`. Whoever runs it by a machine takes from
+//! `not_wrong` that evaluation meets no case that it doesn't have, and from the lemmas beside it in
+//! `proofs/NeverWrong.antt` that a value is an int and that nothing is thrown.
+//!
+//! - `proofs/Safe.antt`: any invariant of states, and a lemma for each combinator and step of evaluation, of what
+//!   keeps it. Nothing there knows of a One.
+//! - `proofs/Values.antt`, `proofs/Kept.antt`: what holds of the states of a One, and that the steps keep it.
+//! - `proofs/Typing.antt`, `proofs/Sound.antt`: which nodes of its core program are well typed, and that evaluation of
+//!   these keeps what holds, a line a form.
+//! - `proofs/Names.antt`, `proofs/Typed.antt`, `proofs/Program.antt`: what a One that fits elaborates to is well typed.
+#![tactic(auto)]
+
+ghost use Rattle.std.specs.Prelude.{◌≢◌, ℕ, List, []};
+ghost use Rattle.je_core.specs.declared.program.Program.{Program};
+ghost use Rattle.je_core.specs.declared.value.Value.TheVariants.{Null};
+ghost use Rattle.je_java.specs.Meaning.{call};
+ghost use Rattle.je_java.specs.Steps.{Wrong};
+ghost use Rattle.one_syntax.specs.Trees.{OneTree};
+ghost use Rattle.one_program.specs.Conditions.{Fits, IsMain};
+ghost use Rattle.one_program.specs.Elaboration.{Elaborates, one_class};
+ghost use Rattle.one_program.specs.Scope.{members_of};
+ghost use Rattle.one_sound.specs.Replies.{Replies};
+
+/// The call of a One's `main` ends with an int, or because its units are spent, whatever their number: it throws
+/// nothing, and meets no case that evaluation doesn't have.
+#[tactic(auto, using(crate::proofs::NeverWrong::main_replies))]
+pub fn never_wrong()
+    ensures replies { (names : List (List ℕ)) (one : OneTree) (program : Program) (main units : ℕ) → Fits names one → Elaborates names one program → IsMain names (members_of one) main → Replies (call program units one_class main Null [] []) }
+    ensures not_wrong { (names : List (List ℕ)) (one : OneTree) (program : Program) (main units : ℕ) → Fits names one → Elaborates names one program → IsMain names (members_of one) main → call program units one_class main Null [] [] ≢ Wrong }
+{}
