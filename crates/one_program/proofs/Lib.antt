@@ -1,3 +1,4 @@
 pub mod Places
 pub mod Exprs
 pub mod Statements
+pub mod Bodies

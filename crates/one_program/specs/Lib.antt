@@ -6,3 +6,4 @@ pub mod Elaboration
 pub mod Nodes
 pub mod Seen
 pub mod Elaborated
+pub mod Bodies

@@ -1,6 +1,7 @@
 //! The core program of a One.
 #![tactic(auto)]
 
+mod body;
 mod expr;
 mod names;
 mod nodes;
