@@ -7,3 +7,4 @@ mod names;
 mod nodes;
 mod scope;
 mod stmt;
+mod words;
