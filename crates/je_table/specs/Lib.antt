@@ -1,2 +1,5 @@
+pub mod Library
+pub mod Members
+pub mod Rows
 pub mod Tables
 pub mod Words
