@@ -1,0 +1,40 @@
+-- JLS 3.1, 3.3 and 3.5: the characters of a source file, its Unicode escapes translated, without a control-Z at its end.
+use Rattle.std.specs.Prelude.{◌≡◌, ℕ, ◌-◌, Bool, false, ◌==◌, List, [], ◌∷◌, length, take, Result, Ok, Err, if◌then◌else◌}
+use Rattle.std.specs.Str.{chars, IsUtf8, IsValidUpTo}
+use Rattle.std.proofs.Common.{Vec, Global}
+use Rattle.je_decode.specs.Escapes.{Translates, Malformed}
+use Rattle.je_decode.specs.Places.{placed}
+use Rattle.je_decode.specs.declared.character.Character.{Character}
+use Rattle.je_decode.specs.declared.fault.DecodeFault.{DecodeFault}
+use Rattle.je_decode.specs.declared.fault.DecodeFault.TheVariants as fault
+
+abbrev pub ends_in_mark : List Character → Bool
+ends_in_mark [] = false
+ends_in_mark (c ∷ []) = c.code == 26
+ends_in_mark (c ∷ d ∷ cs) = ends_in_mark (d ∷ cs)
+
+abbrev pub without_mark : List Character → List Character
+without_mark cs = if ends_in_mark cs then take (length cs - 1) cs else cs
+
+-- The bytes spell these characters.
+pub record Decodes (bytes : List ℕ) (all : List Character) : Type 0 where
+  pub utf8 : IsUtf8 bytes
+  pub text : List Character
+  pub translates : Translates false (placed 0 (chars bytes)) text
+  pub kept : all ≡ without_mark text
+
+-- The first byte that begins no well-formed sequence of UTF-8 is at this place.
+abbrev pub IsNotUtf8 : List ℕ → ℕ → Type 0
+IsNotUtf8 = IsValidUpTo
+
+-- The bytes are UTF-8, and the first malformed escape begins at this byte.
+pub record HasBadEscape (bytes : List ℕ) (at : ℕ) : Type 0 where
+  pub utf8 : IsUtf8 bytes
+  pub malformed : Malformed false (placed 0 (chars bytes)) at
+
+-- The bytes' characters, or why there are none, unless memory ran out.
+abbrev pub IsDecoded : Result (Vec Character Global) DecodeFault → List ℕ → Type 0
+IsDecoded (Ok all) bytes = Decodes bytes all.items
+IsDecoded (Err fault.Memory) bytes = Unit {0}
+IsDecoded (Err (fault.NotUtf8 at)) bytes = IsNotUtf8 bytes at
+IsDecoded (Err (fault.BadEscape at)) bytes = HasBadEscape bytes at

@@ -1,0 +1,4 @@
+pub mod Decoding
+pub mod Escapes
+pub mod Places
+pub mod Views
