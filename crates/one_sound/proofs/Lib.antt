@@ -7,3 +7,4 @@ pub mod Names
 pub mod Typed
 pub mod Program
 pub mod NeverWrong
+mod Rows

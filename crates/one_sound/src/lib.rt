@@ -10,6 +10,7 @@
 //! - `proofs/Typing.antt`, `proofs/Sound.antt`: which nodes of its core program are well typed, and that evaluation of
 //!   these keeps what holds, a line a form.
 //! - `proofs/Names.antt`, `proofs/Typed.antt`, `proofs/Program.antt`: what a One that fits elaborates to is well typed.
+//! - `proofs/Rows.antt`: a One with its core program, of which the law speaks, and its reply.
 #![tactic(auto)]
 
 ghost use Rattle.std.specs.Prelude.{◌≢◌, ℕ, List, []};
@@ -27,6 +28,10 @@ ghost use Rattle.one_sound.specs.Replies.{Replies};
 /// nothing, and meets no case that evaluation doesn't have.
 #[tactic(auto, using(crate::proofs::NeverWrong::main_replies))]
 pub fn never_wrong()
-    ensures replies { (names : List (List ℕ)) (one : OneTree) (program : Program) (main units : ℕ) → Fits names one → Elaborates names one program → IsMain names (members_of one) main → Replies (call program units one_class main Null [] []) }
-    ensures not_wrong { (names : List (List ℕ)) (one : OneTree) (program : Program) (main units : ℕ) → Fits names one → Elaborates names one program → IsMain names (members_of one) main → call program units one_class main Null [] [] ≢ Wrong }
+    ensures replies { (names : List (List ℕ)) (one : OneTree) (program : Program) (main units : ℕ) →
+        Fits names one → Elaborates names one program → IsMain names (members_of one) main →
+        Replies (call program units one_class main Null [] []) }
+    ensures not_wrong { (names : List (List ℕ)) (one : OneTree) (program : Program) (main units : ℕ) →
+        Fits names one → Elaborates names one program → IsMain names (members_of one) main →
+        call program units one_class main Null [] [] ≢ Wrong }
 {}

@@ -1,0 +1,260 @@
+-- A worked row: a One that fits, the core program that it comes to, and its reply. So the law's premises are met.
+--
+-- class One { int n; int more(int by) { n = n + by; return n; } static int main() { One o = new One(); int k = o.more(2 + 3); return o.more(k); } }
+use Rattle.std.proofs.Common.{◌≡◌, ◌<◌, ℕ, List, [], ◌∷◌, length, Some, None, refl, inl, inr, arith}
+use Rattle.std.specs.Prelude.{pos, true, false, codes}
+use Rattle.std.specs.declared.rc.Rc.{Rc}
+use Rattle.std.specs.declared.vec.Vec.{Vec}
+use Rattle.std.specs.declared.alloc.Global.{Global}
+use Rattle.std.specs.Int.{int_wrap}
+use denote.RawPtr.{Ptr}
+use Rattle.je_core.specs.Layers.{layers}
+use Rattle.je_core.specs.declared.expr.BinOp.TheVariants.{Add}
+use Rattle.je_core.specs.declared.expr.Expr.{Expr}
+use Rattle.je_core.specs.declared.expr.Form.{Form}
+use Rattle.je_core.specs.declared.expr.Form.TheVariants.{Const, Local, This, Field, Assign, Binary, CallVirtual, New}
+use Rattle.je_core.specs.declared.object.Obj.TheVariants.{Instance}
+use Rattle.je_core.specs.declared.program.Class.{Class}
+use Rattle.je_core.specs.declared.program.Local.{Local as LocalOf}
+use Rattle.je_core.specs.declared.program.Method.{Method}
+use Rattle.je_core.specs.declared.program.Program.{Program}
+use Rattle.je_core.specs.declared.span.NameId.{NameId}
+use Rattle.je_core.specs.declared.span.Span.{Span}
+use Rattle.je_core.specs.declared.stmt.Stmt.{Stmt}
+use Rattle.je_core.specs.declared.stmt.StmtForm.{StmtForm}
+use Rattle.je_core.specs.declared.stmt.StmtForm.TheVariants.{Block, Do, Return}
+use Rattle.je_core.specs.declared.types.Ty.{Ty}
+use Rattle.je_core.specs.declared.value.Value.TheVariants.{Int, Null}
+use Rattle.je_java.specs.Steps.{Done}
+use Rattle.je_java.specs.Meaning.{java, meanings, call}
+use Rattle.je_java.specs.Opened.{opened}
+use Rattle.one_syntax.specs.Trees.{ExprTree, ExprTrees, StatementTree, OneTree}
+use Rattle.one_syntax.specs.Trees as tree
+use Rattle.one_program.specs.Scope.{Scope, local_of, members_of, scope_of}
+use Rattle.one_program.specs.Conditions.{IsIntName, Fits, IsMain}
+use Rattle.one_program.specs.Elaboration.{one_class, int_type, class_type, void_type, IsLocal, IsOwnField, IsConstant, IsExpr, is_constant, is_local, is_field, is_binary, is_call, calls_on, no_exprs, more_exprs, is_declare, is_make, is_assign_field, is_return, is_next, no_locals, more_locals, IsMethod, no_methods, past_field, one_method, no_fields, more_fields, Elaborates}
+use Rattle.one_sound.specs.Replies.{Replies}
+use Rattle.one_sound.proofs.NeverWrong.{main_replies}
+
+abbrev id : ℕ → NameId
+id n = record { 0 = n }
+
+abbrev names : List (List ℕ)
+names = codes "One" ∷ codes "n" ∷ codes "more" ∷ codes "by" ∷ codes "main" ∷ codes "o" ∷ codes "k" ∷ codes "new" ∷ []
+
+-- the tree
+
+abbrev more_body : List StatementTree
+more_body = tree.assign (id 1) (tree.binary Add (tree.name (id 1)) (tree.name (id 3))) ∷ []
+
+abbrev main_body : List StatementTree
+main_body = tree.make (id 0) (id 5) (id 0) ∷ tree.declare (id 6) (tree.call (Some (id 5)) (id 2) (tree.more (tree.binary Add (tree.decimal 2) (tree.decimal 3)) tree.none)) ∷ []
+
+abbrev one : OneTree
+one = record {
+  name = id 0;
+  members = tree.field (id 1) ∷ tree.method false (id 2) (id 3 ∷ []) more_body (tree.name (id 1)) ∷
+      tree.method true (id 4) [] main_body (tree.call (Some (id 5)) (id 2) (tree.more (tree.name (id 6)) tree.none)) ∷ [];
+}
+
+-- what the names of its bodies stand for
+field_n : IsIntName (scope_of (members_of one) false (id 3 ∷ []) more_body) (id 1)
+field_n = record { allowed = refl; found = inr (refl, refl) }
+
+fits : Fits names one
+fits = record {
+  class = refl;
+  fields = (refl, tt);
+  methods = (refl, (refl, tt));
+  members = (
+    tt,
+    (
+      (refl, (refl, tt), ((field_n, (field_n, record { allowed = refl; found = inl refl })), field_n)),
+      ((refl, tt, ((refl, refl, refl), ((refl, (((record { number = 0; found = refl; holds = refl }), (0, (record { found = refl; head = refl }))), ((omega arith, omega arith), tt))), (((record { number = 0; found = refl; holds = refl }), (0, (record { found = refl; head = refl }))), (record { allowed = refl; found = inl refl }, tt))))), tt),
+    ),
+  );
+  main = (1, record { name = id 4; text = refl; head = refl });
+}
+
+-- the core program
+
+module _ (ptr : Ptr) (global : Global) where
+  abbrev vec : {X : Type 0} (xs : List X) → length xs < 5 → Vec X Global
+  vec xs h = record { ptr = ptr; len = length xs; cap = length xs; alloc = global; items = xs; ok = (refl, omega arith); small = omega arith }
+
+  abbrev none : {X : Type 0} → Vec X Global
+  none = vec [] (omega arith)
+
+  abbrev one_of : {X : Type 0} → X → Vec X Global
+  one_of x = vec (x ∷ []) (omega arith)
+
+  abbrev nowhere : Span
+  nowhere = record { file = 0; start = 0; end = 0 }
+
+  abbrev node : Form → Ty → Rc Expr Global
+  node form ty = record { ptr = ptr; value = record { form = form; ty = ty; span = nowhere; at = nowhere } }
+
+  abbrev statement : StmtForm → Rc Stmt Global
+  statement form = record { ptr = ptr; value = record { form = form; span = nowhere; at = nowhere } }
+
+  abbrev does : Rc Expr Global → Rc Stmt Global
+  does e = statement (Do e)
+
+  abbrev gives : Rc Expr Global → Rc Stmt Global
+  gives e = statement (Return (Some e))
+
+  abbrev int_local : ℕ → Rc Expr Global
+  int_local at = node (Local at) int_type
+
+  abbrev field_of_this : Rc Expr Global
+  field_of_this = node (Field (node This class_type) one_class 0) int_type
+
+  -- o.more(e)
+  abbrev more_of : Rc Expr Global → Rc Expr Global
+  more_of e = node (CallVirtual (node (Local 0) class_type) one_class 0 (one_of e)) int_type
+
+  abbrev local : ℕ → Ty → LocalOf
+  local x ty = record { name = id x; ty = ty; is_final = false; span = nowhere }
+
+  abbrev more_made : Method
+  more_made = record {
+    name = id 2;
+    span = nowhere;
+    params = one_of int_type;
+    returns = int_type;
+    flags = record { is_static = false };
+    locals = one_of (local 3 int_type);
+    body = Some (statement (Block none (vec (does (node (Assign field_of_this (node (Binary Add field_of_this (int_local 0)) int_type)) int_type) ∷ gives field_of_this ∷ []) (omega arith))));
+  }
+
+  abbrev main_made : Method
+  main_made = record {
+    name = id 4;
+    span = nowhere;
+    params = none;
+    returns = int_type;
+    flags = record { is_static = true };
+    locals = vec (local 5 class_type ∷ local 6 int_type ∷ []) (omega arith);
+    body = Some (statement (Block (vec (0 ∷ 1 ∷ []) (omega arith)) (vec (
+        does (node (Assign (node (Local 0) class_type) (node (New one_class 2 none) class_type)) class_type) ∷
+        does (node (Assign (int_local 1) (more_of (node (Const (Int (pos 5)) none) int_type))) int_type) ∷
+        gives (more_of (int_local 1)) ∷ []) (omega arith))));
+  }
+
+  abbrev constructor_made : Method
+  constructor_made = record { name = id 7; span = nowhere; params = none; returns = void_type; flags = record { is_static = false }; locals = none; body = Some (statement (Block none none)) }
+
+  abbrev class_made : Class
+  class_made = record {
+    name = id 0;
+    span = nowhere;
+    superclass = None;
+    fields = one_of (record { name = id 1; span = nowhere; ty = int_type; is_static = false });
+    methods = vec (more_made ∷ main_made ∷ constructor_made ∷ []) (omega arith);
+  }
+
+  abbrev program : Program
+  program = record { classes = one_of class_made; texts = none }
+
+  -- the node of n, and those of local variables
+  own_n : IsOwnField 0 field_of_this.value
+  unfolding layers
+  own_n = record { object = node This class_type; form = refl; this = record { form = refl; type = refl }; type = refl }
+
+  is_int_local : (number : ℕ) → IsLocal number int_type (int_local number).value
+  unfolding layers
+  is_int_local number = record { form = refl; type = refl }
+
+  is_object_local : IsLocal 0 class_type (node (Local 0) class_type).value
+  unfolding layers
+  is_object_local = record { form = refl; type = refl }
+
+  is_five : IsConstant (pos 5) (node (Const (Int (pos 5)) none) int_type).value
+  unfolding layers
+  is_five = record { uses = none; form = refl; none = refl; type = refl }
+
+  more_is : IsMethod (members_of one) false (id 2) (id 3 ∷ []) more_body (tree.name (id 1)) more_made
+  unfolding layers
+  more_is = record {
+    name = refl;
+    params_are = refl;
+    returns = refl;
+    flag = refl;
+    locals = more_locals (record { name = refl; type = refl; open_to_writes = refl }) no_locals;
+    block = _;
+    has_body = refl;
+    parts = _;
+    is_block = record { locals = _; nodes = _; form = refl; declared_are = refl; parts_are = refl };
+    is_body = is_next (is_assign_field refl refl (record { done = _; form = refl; is = refl }) (record { to = _; from = _; form = refl; place_is = refl; value_is = refl; type = refl }) own_n
+        (is_binary refl refl (is_field refl refl own_n) (is_local refl (is_int_local 0)) refl))
+        (is_return refl (is_field refl refl own_n));
+  }
+
+  -- o.more(e)
+  is_more : {scope : Scope} {t : ExprTree} (e : Rc Expr Global) → scope.members ≡ members_of one → local_of scope (id 5) ≡ Some 0 → IsExpr scope t e.value →
+      IsExpr scope (tree.call (Some (id 5)) (id 2) (tree.more t tree.none)) (more_of e).value
+  unfolding layers
+  is_more e m l q = is_call (calls_on {x = id 2} {number = 0} l (record { found = rw m refl; head = rw m refl }) refl is_object_local (more_exprs q no_exprs) refl)
+
+  main_is : IsMethod (members_of one) true (id 4) [] main_body (tree.call (Some (id 5)) (id 2) (tree.more (tree.name (id 6)) tree.none)) main_made
+  unfolding layers int_wrap
+  main_is = record {
+    name = refl;
+    params_are = refl;
+    returns = refl;
+    flag = refl;
+    locals = more_locals (record { name = refl; type = refl; open_to_writes = refl }) (more_locals (record { name = refl; type = refl; open_to_writes = refl }) no_locals);
+    block = _;
+    has_body = refl;
+    parts = _;
+    is_block = record { locals = _; nodes = _; form = refl; declared_are = refl; parts_are = refl };
+    is_body =
+        is_next (is_make (record { done = _; form = refl; is = refl }) (record { to = _; from = _; form = refl; place_is = refl; value_is = refl; type = refl }) is_object_local
+        (record { args = _; form = refl; none = refl; type = refl }))
+        (is_next (is_declare (record { done = _; form = refl; is = refl }) (record { to = _; from = _; form = refl; place_is = refl; value_is = refl; type = refl }) (is_int_local 1)
+        (is_more _ refl refl (is_constant refl is_five)))
+        (is_return refl (is_more _ refl refl (is_local refl (is_int_local 1)))));
+  }
+
+  elaborates : Elaborates names one program
+  unfolding layers
+  elaborates = record {
+    class = class_made;
+    classes = refl;
+    is_class = record {
+      name = refl;
+      superclass = refl;
+      fields = more_fields (record { name = refl; type = refl; flag = refl }) no_fields;
+      declared = more_made ∷ main_made ∷ [];
+      constructor = constructor_made;
+      methods_are = refl;
+      methods = past_field (one_method more_is (one_method main_is no_methods));
+      is_constructor = record {
+        name = refl;
+        params_are = refl;
+        returns = refl;
+        flag = refl;
+        locals = refl;
+        block = _;
+        has_body = refl;
+        is_block = record { locals = _; nodes = _; form = refl; declared_are = refl; parts_are = refl };
+      };
+    };
+    texts = refl;
+  }
+
+  is_main : IsMain names (members_of one) 1
+  is_main = record { name = id 4; text = refl; head = refl }
+
+  -- the law speaks of it, with any units
+  replies : (units : ℕ) → Replies (call program units one_class 1 Null [] [])
+  replies units = main_replies names one program 1 units fits elaborates is_main
+
+  -- its reply is 5, and then 10: of 37 units one is the new object's slot
+  reply : call program 1000000 one_class 1 Null [] [] ≡ Done (Int (pos 10)) (record {
+    objects = Instance one_class (Int (pos 10) ∷ []) ∷ [];
+    own = record { this = Null; locals = [] };
+    public = record { units = 999963; begun = 36 };
+  })
+  unfolding java meanings opened layers int_wrap
+  reply = refl
