@@ -34,9 +34,9 @@ main-keeps {main = main} p q =
 done : {count : ℕ} {value : Value} (s : State) → Holds int count value → Replies (Done value s)
 done s Holds.an_int = an_int
 
-pub main_replies : (names : List (List ℕ)) (one : OneTree) (program : Program) (main units : ℕ) → Fits names one → Elaborates names one program → IsMain names (members_of one) main →
+pub main_replies : (names all_names : List (List ℕ)) (one : OneTree) (program : Program) (main units : ℕ) → Fits names one → Elaborates all_names one program → IsMain names (members_of one) main →
     Replies (call program units one_class main Null [] [])
-main_replies names one program main units fits q is_main = (main-keeps (program-typed fits q) is_main).run Done ends
+main_replies names all_names one program main units fits q is_main = (main-keeps (program-typed fits q) is_main).run Done ends
     (record { from = λ u l value h s fine. done s h })
     (record { leave = λ u l value h s fine. done s h; throw = λ u l exception h s fine. absurd h })
     (state_at units [])
@@ -57,6 +57,6 @@ pub replies-not_wrong : (answer : Answer) → Replies answer → answer ≢ Wron
 replies-not_wrong answer an_int e = cc
 replies-not_wrong answer units_spent e = cc
 
-pub main_not_wrong : (names : List (List ℕ)) (one : OneTree) (program : Program) (main units : ℕ) → Fits names one → Elaborates names one program → IsMain names (members_of one) main →
+pub main_not_wrong : (names all_names : List (List ℕ)) (one : OneTree) (program : Program) (main units : ℕ) → Fits names one → Elaborates all_names one program → IsMain names (members_of one) main →
     call program units one_class main Null [] [] ≢ Wrong
-main_not_wrong names one program main units fits q is_main = replies-not_wrong _ (main_replies names one program main units fits q is_main)
+main_not_wrong names all_names one program main units fits q is_main = replies-not_wrong _ (main_replies names all_names one program main units fits q is_main)

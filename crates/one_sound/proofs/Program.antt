@@ -98,7 +98,7 @@ slice_get-seam [] ys y = refl
 slice_get-seam (x ∷ xs) ys y = slice_get-seam xs ys y
 
 -- a One that fits elaborates to a program that is well typed
-pub program-typed : {names : List (List ℕ)} {one : OneTree} {program : Program} → Fits names one → Elaborates names one program → ProgramTyped (members_of one) program
+pub program-typed : {names all_names : List (List ℕ)} {one : OneTree} {program : Program} → Fits names one → Elaborates all_names one program → ProgramTyped (members_of one) program
 program-typed {names = names} {one = one} fits q =
     let made = q.is_class in
     record {

@@ -248,7 +248,7 @@ module _ (ptr : Ptr) (global : Global) where
 
   -- the law speaks of it, with any units
   replies : (units : ℕ) → Replies (call program units one_class 1 Null [] [])
-  replies units = main_replies names one program 1 units fits elaborates is_main
+  replies units = main_replies names names one program 1 units fits elaborates is_main
 
   -- its reply is 5, and then 10: of 37 units one is the new object's slot
   reply : call program 1000000 one_class 1 Null [] [] ≡ Done (Int (pos 10)) (record {

@@ -25,13 +25,12 @@ ghost use Rattle.one_program.specs.Scope.{members_of};
 ghost use Rattle.one_sound.specs.Replies.{Replies};
 
 /// The call of a One's `main` ends with an int, or because its units are spent, whatever their number: it throws
-/// nothing, and meets no case that evaluation doesn't have.
-#[tactic(auto, using(crate::proofs::NeverWrong::main_replies))]
+/// nothing, and meets no case that evaluation doesn't have. The core program may use more names than the One.
 pub fn never_wrong()
-    ensures replies { (names : List (List ℕ)) (one : OneTree) (program : Program) (main units : ℕ) →
-        Fits names one → Elaborates names one program → IsMain names (members_of one) main →
+    ensures replies { (names all_names : List (List ℕ)) (one : OneTree) (program : Program) (main units : ℕ) →
+        Fits names one → Elaborates all_names one program → IsMain names (members_of one) main →
         Replies (call program units one_class main Null [] []) }
-    ensures not_wrong { (names : List (List ℕ)) (one : OneTree) (program : Program) (main units : ℕ) →
-        Fits names one → Elaborates names one program → IsMain names (members_of one) main →
+    ensures not_wrong { (names all_names : List (List ℕ)) (one : OneTree) (program : Program) (main units : ℕ) →
+        Fits names one → Elaborates all_names one program → IsMain names (members_of one) main →
         call program units one_class main Null [] [] ≢ Wrong }
 {}
