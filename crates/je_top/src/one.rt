@@ -6,7 +6,7 @@ ghost use Rattle.je_top.specs.One.{IsOne, Answers};
 use je_core::Memory;
 use std::alloc::Global;
 
-/// What a file comes to.
+/// What the bytes of a file come to. A file is a One where it holds a class of the subset of Java that is built.
 #[derive(Clone, Copy, Debug, PartialEq, Eq)]
 pub enum Answer {
     /// `main` replied with this int.

@@ -13,9 +13,12 @@ use std::alloc::Global;
 
 /// Does what the words of a command line say, and puts its text to `out`.
 ///
-/// `run FILE` runs `main` of the One in the file. Words are judged first, then the file is read, then it is judged
-/// and run. The first refusal ends the call. A fault of `files` or `out` and want of memory may come in place of any
-/// answer after the words; a fault only where the count of faults rose.
+/// `run FILE` runs `main` of the class in the file, which has to be a One: a class of the subset of Java that is
+/// built so far. The words are judged first, then the file is read, then it is judged and run. The first refusal
+/// ends the call. A fault of `files` or `out` comes only where its count of faults rose, and want of memory may come
+/// in place of any answer.
+///
+/// The statuses are `Ok`, `Usage`, `ReadFault`, `WriteFault`, `Memory`, `NotThere`, `TooLong` and `NotBuilt`.
 pub fn joee<F: Files, O: Sink>(
     alloc: Global,
     words: &[String],
