@@ -1,8 +1,9 @@
 -- What holds of the states of a One while it runs, and that the steps keep it.
-use Rattle.std.proofs.Common.{◌≡◌, ℕ, zero, suc, ◌<◌, ◌≤◌, List, [], ◌∷◌, ◌++◌, length, map, drop, Some, refl, sym, subst, arith, length-append, length-drop}
+use Rattle.std.proofs.Common.{◌≡◌, ℕ, suc, ◌<◌, ◌≤◌, List, [], ◌∷◌, ◌++◌, length, get_or, map, drop, Some, sym, subst, arith, length-append, length-drop}
 use Rattle.std.specs.Prelude.{Bool, false, slice_get}
 use Rattle.std.proofs.lemmas.List.{length-map, length-set}
 use Rattle.std.proofs.lemmas.List.Elements.{All-head, All-tail}
+use Rattle.std.proofs.lemmas.Option.{slice_get-get_or}
 use Rattle.je_core.specs.Defaults.{default_of}
 use Rattle.je_core.specs.declared.expr.BinOp.{BinOp}
 use Rattle.je_core.specs.declared.program.Local.{Local}
@@ -10,7 +11,7 @@ use Rattle.je_core.specs.declared.program.Method.{Method}
 use Rattle.je_core.specs.declared.program.Program.{Program}
 use Rattle.je_core.specs.declared.span.NameId.{NameId}
 use Rattle.je_core.specs.declared.value.Value.{Value}
-use Rattle.je_core.specs.declared.value.Value.TheVariants.{Int, Ref}
+use Rattle.je_core.specs.declared.value.Value.TheVariants.{Int, Null, Ref}
 use Rattle.je_java.specs.Classes.{field_slot, fresh_slots, locals_for}
 use Rattle.je_java.specs.Steps.{Own, Computation, get_this, get_local, put_local, make, binary, read_field, write_field}
 use Rattle.one_program.specs.Elaboration.{one_class}
@@ -46,12 +47,6 @@ invariant fields = record {
   spent_is_fine = λ s. units_spent;
 }
 
--- a list has an element at each place
-slice_get_at : {A : Type 0} (xs : List A) (at : ℕ) → at < length xs → (x : A) × (slice_get xs at ≡ Some x)
-slice_get_at [] at h = absurd (omega arith)
-slice_get_at (x ∷ xs) zero h = (x, refl)
-slice_get_at (x ∷ xs) (suc at) h = slice_get_at xs at (omega arith)
-
 -- keeps the invariant, from a place to another; bodies return ints
 abbrev pub Keeps : (fields : ℕ) {A : Type 0} → ℕ → Context → Context → (ℕ → A → Type 0) → Computation A → Type 0
 Keeps fields t c d Q m = Safe (invariant fields) (Holds int) t c d Q m
@@ -85,8 +80,7 @@ module _ {fields : ℕ} {t : ℕ} {c : Context} where
   keeps-initialize {value = value} variable h r = safe-put_local (length c.locals) value
       (λ own q.
       let within : length c.locals < length own.locals = subst (λ n. length c.locals < n) (sym q.room) h in
-      let old = slice_get_at own.locals (length c.locals) within in
-      (old.0, old.1, record { this = q.this; locals = LocalsFit-declare variable q.locals within r; room = rw length-set q.room }))
+      (get_or own.locals (length c.locals) Null, slice_get-get_or own.locals (length c.locals) Null within, record { this = q.this; locals = LocalsFit-declare variable q.locals within r; room = rw length-set q.room }))
       r
 
   pub keeps-make : {slots : List Value} (program : Program) → fresh_slots program one_class ≡ Some slots → Ints fields slots →

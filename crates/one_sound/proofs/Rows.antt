@@ -2,7 +2,7 @@
 --
 -- class One { int n; int more(int by) { n = n + by; return n; } static int main() { One o = new One(); int k = o.more(2 + 3); return o.more(k); } }
 use Rattle.std.proofs.Common.{◌≡◌, ◌<◌, ℕ, List, [], ◌∷◌, length, Some, None, refl, inl, inr, arith}
-use Rattle.std.specs.Prelude.{pos, true, false, codes}
+use Rattle.std.specs.Prelude.{Bool, pos, true, false, codes}
 use Rattle.std.specs.declared.rc.Rc.{Rc}
 use Rattle.std.specs.declared.vec.Vec.{Vec}
 use Rattle.std.specs.declared.alloc.Global.{Global}
@@ -25,16 +25,16 @@ use Rattle.je_core.specs.declared.stmt.StmtForm.{StmtForm}
 use Rattle.je_core.specs.declared.stmt.StmtForm.TheVariants.{Block, Do, Return}
 use Rattle.je_core.specs.declared.types.Ty.{Ty}
 use Rattle.je_core.specs.declared.value.Value.TheVariants.{Int, Null}
-use Rattle.je_java.specs.Steps.{Done}
+use Rattle.je_java.specs.Steps.{Done, Wrong}
 use Rattle.je_java.specs.Meaning.{java, meanings, call}
 use Rattle.je_java.specs.Opened.{opened}
 use Rattle.one_syntax.specs.Trees.{ExprTree, ExprTrees, StatementTree, OneTree}
 use Rattle.one_syntax.specs.Trees as tree
 use Rattle.one_program.specs.Scope.{Scope, local_of, members_of, scope_of}
 use Rattle.one_program.specs.Conditions.{IsIntName, Fits, IsMain}
-use Rattle.one_program.specs.Elaboration.{one_class, int_type, class_type, void_type, IsLocal, IsOwnField, IsConstant, IsExpr, is_constant, is_local, is_field, is_binary, is_call, calls_on, no_exprs, more_exprs, is_declare, is_make, is_assign_field, is_return, is_next, no_locals, more_locals, IsMethod, no_methods, past_field, one_method, no_fields, more_fields, Elaborates}
+use Rattle.one_program.specs.Elaboration.{one_class, int_type, class_type, void_type, IsLocal, IsOwnField, IsConstant, IsExpr, is_constant, is_local, is_field, is_binary, is_call, calls_own, calls_on, no_exprs, more_exprs, is_declare, is_make, is_assign_field, is_return, is_next, no_locals, more_locals, IsDefaultConstructor, IsMethod, no_methods, past_field, one_method, no_fields, more_fields, Elaborates}
 use Rattle.one_sound.specs.Replies.{Replies}
-use Rattle.one_sound.proofs.NeverWrong.{main_replies}
+use Rattle.one_sound.proofs.NeverWrong.{main_replies, main_not_wrong}
 
 abbrev id : ℕ → NameId
 id n = record { 0 = n }
@@ -216,6 +216,19 @@ module _ (ptr : Ptr) (global : Global) where
         (is_return refl (is_more _ refl refl (is_local refl (is_int_local 1)))));
   }
 
+  constructor_is : IsDefaultConstructor names constructor_made
+  unfolding layers
+  constructor_is = record {
+    name = refl;
+    params_are = refl;
+    returns = refl;
+    flag = refl;
+    locals = refl;
+    block = _;
+    has_body = refl;
+    is_block = record { locals = _; nodes = _; form = refl; declared_are = refl; parts_are = refl };
+  }
+
   elaborates : Elaborates names one program
   unfolding layers
   elaborates = record {
@@ -229,16 +242,7 @@ module _ (ptr : Ptr) (global : Global) where
       constructor = constructor_made;
       methods_are = refl;
       methods = past_field (one_method more_is (one_method main_is no_methods));
-      is_constructor = record {
-        name = refl;
-        params_are = refl;
-        returns = refl;
-        flag = refl;
-        locals = refl;
-        block = _;
-        has_body = refl;
-        is_block = record { locals = _; nodes = _; form = refl; declared_are = refl; parts_are = refl };
-      };
+      is_constructor = constructor_is;
     };
     texts = refl;
   }
@@ -258,3 +262,72 @@ module _ (ptr : Ptr) (global : Global) where
   })
   unfolding java meanings opened layers int_wrap
   reply = refl
+
+  -- class One { int more() { return 1; } static int main() { return more(); } } doesn't fit, for all that it comes to a core program: there is no object to call `more` on
+  abbrev unfit : OneTree
+  unfit = record { name = id 0; members = tree.method false (id 2) [] [] (tree.decimal 1) ∷ tree.method true (id 4) [] [] (tree.call None (id 2) tree.none) ∷ [] }
+
+  abbrev returning : ℕ → Bool → Rc Expr Global → Method
+  returning x is_static e = record {
+    name = id x;
+    span = nowhere;
+    params = none;
+    returns = int_type;
+    flags = record { is_static = is_static };
+    locals = none;
+    body = Some (statement (Block none (one_of (gives e))));
+  }
+
+  abbrev unfit_program : Program
+  unfit_program = record {
+    classes = one_of (record {
+      name = id 0;
+      span = nowhere;
+      superclass = None;
+      fields = none;
+      methods = vec (returning 2 false (node (Const (Int (pos 1)) none) int_type) ∷ returning 4 true (node (CallVirtual (node This class_type) one_class 0 none) int_type) ∷ constructor_made ∷ []) (omega arith);
+    });
+    texts = none;
+  }
+
+  is_returning : {x : ℕ} {is_static : Bool} {t : ExprTree} (e : Rc Expr Global) → IsExpr (scope_of (members_of unfit) is_static [] []) t e.value →
+      IsMethod (members_of unfit) is_static (id x) [] [] t (returning x is_static e)
+  unfolding layers
+  is_returning e q = record {
+    name = refl;
+    params_are = refl;
+    returns = refl;
+    flag = refl;
+    locals = no_locals;
+    block = _;
+    has_body = refl;
+    parts = _;
+    is_block = record { locals = _; nodes = _; form = refl; declared_are = refl; parts_are = refl };
+    is_body = is_return refl q;
+  }
+
+  unfit_elaborates : Elaborates names unfit unfit_program
+  unfolding layers
+  unfit_elaborates = record {
+    class = _;
+    classes = refl;
+    is_class = record {
+      name = refl;
+      superclass = refl;
+      fields = no_fields;
+      declared = _;
+      constructor = constructor_made;
+      methods_are = refl;
+      methods = one_method (is_returning _ (is_constant refl (record { uses = none; form = refl; none = refl; type = refl })))
+          (one_method (is_returning _ (is_call (calls_own (record { found = refl; head = refl }) refl (record { form = refl; type = refl }) no_exprs refl))) no_methods);
+      is_constructor = constructor_is;
+    };
+    texts = refl;
+  }
+
+  goes_wrong : call unfit_program 1000000 one_class 1 Null [] [] ≡ Wrong
+  unfolding java meanings opened layers
+  goes_wrong = refl
+
+  unfits : Fits names unfit → ⊥
+  unfits fits = main_not_wrong names unfit unfit_program 1 1000000 fits unfit_elaborates (record { name = id 4; text = refl; head = refl }) goes_wrong

@@ -16,7 +16,7 @@ use Rattle.je_core.specs.declared.value.Value.{Value}
 use Rattle.je_core.specs.declared.value.Value.TheVariants.{Int, Ref}
 use Rattle.je_java.specs.Classes.{fresh_slots, field_slot, locals_for}
 use Rattle.je_java.specs.World.{class_of, slot_of, with_slot}
-use Rattle.je_java.specs.Steps.{State, Own, Answer, Spent, Run, Nothing, Exits, Computation, ret, bind, seq, yields, spent, throw, leave, need, framed, with_own, with_objects, with_units, tick, tick_at, charge, get_this, get_local, put_local, get_class, get_slot, put_slot, new_object, make, deref, operate, binary, read_field, write_field}
+use Rattle.je_java.specs.Steps.{State, Own, Answer, Spent, Run, Nothing, Exits, Computation, ret, bind, seq, yields, spent, throw, leave, need, framed, with_own, with_objects, with_units, tick, tick_at, charge, get_this, get_local, put_local, get_class, get_slot, put_slot, new_object, make, raise, deref, operate, binary, read_field, write_field}
 use Rattle.je_java.specs.Meaning.{Meanings, run_method}
 
 -- what holds of states between the steps
@@ -218,6 +218,23 @@ module _ {I : Invariant} where
   unfolding binary
   safe-binary op x y q = safe-need _ refl (safe-need _ refl (safe-ret (Int (operate op x y)) q))
 
+  pub safe-make : {L : Known I Value} {t : I.Time} {c : I.Context} {Q : Known I ObjId} {slots : List Value} (program : Program) (class : ClassId) →
+      fresh_slots program class ≡ Some slots →
+      ((u : I.Time) → I.Later t u → (objects : List Obj) → I.ObjectsFit u objects →
+      (v : I.Time) × I.Later u v × I.ObjectsFit v (objects ++ Instance class slots ∷ []) × Q v (record { 0 = length objects })) →
+      Safe I L t c c Q (make program class)
+  unfolding make
+  safe-make {slots = slots} program class e q = safe-need _ e (safe-seq (safe-charge (length slots)) λ u l. safe-new_object _ (q u l))
+
+  -- an exception that is thrown once it is made
+  pub safe-raise : {A : Type 0} {L : Known I Value} {t : I.Time} {c d : I.Context} {Q : Known I A} {slots : List Value} (program : Program) (class : ClassId) →
+      fresh_slots program class ≡ Some slots →
+      ((u : I.Time) → I.Later t u → (objects : List Obj) → I.ObjectsFit u objects →
+      (v : I.Time) × I.Later u v × I.ObjectsFit v (objects ++ Instance class slots ∷ []) × I.Throws v (record { 0 = length objects })) →
+      Safe I L t c d Q (raise program class)
+  unfolding raise
+  safe-raise program class e q = safe-bind (safe-make program class e q) λ u l exception r. safe-throw exception r
+
   -- of a reference there is the object
   pub safe-deref : {B : Type 0} {L : Known I Value} {t : I.Time} {c d : I.Context} {Q : Known I B} (program : Program) (object : ObjId) (f : ObjId → Computation B) →
       Safe I L t c d Q (f object) → Safe I L t c d Q (bind (deref program (Ref object)) f)
@@ -237,14 +254,6 @@ module _ {I : Invariant} where
       Q t value → Safe I L t c c Q (write_field program class field (Ref object) value)
   unfolding write_field
   safe-write_field program class field object value e q r = safe-deref _ object _ (safe-need _ e (safe-put_slot object _ value q r))
-
-  pub safe-make : {L : Known I Value} {t : I.Time} {c : I.Context} {Q : Known I ObjId} {slots : List Value} (program : Program) (class : ClassId) →
-      fresh_slots program class ≡ Some slots →
-      ((u : I.Time) → I.Later t u → (objects : List Obj) → I.ObjectsFit u objects →
-      (v : I.Time) × I.Later u v × I.ObjectsFit v (objects ++ Instance class slots ∷ []) × Q v (record { 0 = length objects })) →
-      Safe I L t c c Q (make program class)
-  unfolding make
-  safe-make {slots = slots} program class e q = safe-need _ e (safe-seq (safe-charge (length slots)) λ u l. safe-new_object _ (q u l))
 
   -- a method's body, with its receiver and its arguments
   pub safe-run_method : {L P Q : Known I Value} {t : I.Time} {c d e : I.Context} {block : Rc Stmt Global} (m : Meanings) (method : Method) (this : Value) (given : List Value) →
