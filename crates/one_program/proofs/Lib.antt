@@ -2,3 +2,4 @@ pub mod Places
 pub mod Exprs
 pub mod Statements
 pub mod Bodies
+pub mod Methods

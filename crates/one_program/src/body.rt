@@ -34,6 +34,7 @@ pub fn make_body(
 ) -> Result<Option<MadeBody>, Memory>
     requires { length params.now + length statements.now < 2 ^ 31 }
     ensures is { IfOk result (λ o. IfSome o (IsMadeBody (scope_of members.now is_static params.now (map view_statement statements.now)) (map view_statement statements.now) (view_expr result_tree.now))) }
+    ensures few { IfOk result (λ o. IfSome o (λ made. length made.locals.items < 2 ^ 31)) }
     ensures fits { IfOk result (λ o. OnSome o (BodyFits (scope_of members.now is_static params.now (map view_statement statements.now)) (map view_statement statements.now) (view_expr result_tree.now))) }
     ensures none { IfOk result (λ o. IfNone o (BodyFits (scope_of members.now is_static params.now (map view_statement statements.now)) (map view_statement statements.now) (view_expr result_tree.now) → ⊥)) }
 {

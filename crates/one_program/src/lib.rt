@@ -3,6 +3,7 @@
 
 mod body;
 mod expr;
+mod method;
 mod names;
 mod nodes;
 mod scope;
