@@ -3,3 +3,4 @@ pub mod Exprs
 pub mod Statements
 pub mod Bodies
 pub mod Methods
+pub mod Classes

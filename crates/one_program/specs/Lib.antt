@@ -7,3 +7,5 @@ pub mod Nodes
 pub mod Seen
 pub mod Elaborated
 pub mod Bodies
+pub mod Sizes
+pub mod Built

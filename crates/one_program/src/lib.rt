@@ -2,6 +2,7 @@
 #![tactic(auto)]
 
 mod body;
+mod class;
 mod expr;
 mod method;
 mod names;
