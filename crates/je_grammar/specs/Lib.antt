@@ -3,4 +3,7 @@ pub mod Operators
 pub mod Types
 pub mod Context
 pub mod Grammar
+pub mod Longest
+pub mod Place
+pub mod Laws
 pub mod Rows

@@ -8,3 +8,9 @@
 //!
 //! The layer above, the parser, is proved to give the trees that these relations hold of.
 #![tactic(auto)]
+
+mod laws;
+
+pub use laws::{
+    cast_before_operand, creation_not_indexed, else_of_nearest_if, size_within_tokens, spells_some,
+};
