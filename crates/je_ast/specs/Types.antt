@@ -68,11 +68,3 @@ abbrev mutual
   pub types_height : Writtens → ℕ
   types_height no_types = 0
   types_height (more_types t ts) = max (type_height t) (types_height ts)
-
--- the heights of trees in memory
-unfoldable pub type_height_of : TyName → ℕ
-type_height_of t = type_height (type_of t)
-
-abbrev pub types_height_of : List TyName → ℕ
-types_height_of [] = 0
-types_height_of (t ∷ ts) = max (type_height_of t) (types_height_of ts)

@@ -7,6 +7,7 @@
 
 mod decl;
 mod expr;
+mod heights;
 mod name;
 mod operator;
 mod stmt;
@@ -14,6 +15,7 @@ mod ty_name;
 
 pub use decl::{ConstructorCall, Decl, Formal, Member, Modifier, ModifierKind, TypeParam, Unit};
 pub use expr::{Expr, Literal};
+pub use heights::height;
 pub use name::{Identifier, Name};
 pub use operator::{BinaryOp, PostfixOp, PrefixOp};
 pub use stmt::{Block, Catch, ForInit, Group, Label, Stmt, Var};

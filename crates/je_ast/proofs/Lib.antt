@@ -1,0 +1,4 @@
+pub mod RowHeights
+pub mod VariantHeights
+pub mod HeightWithinSize
+pub mod UnitHeight
