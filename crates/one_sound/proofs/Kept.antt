@@ -55,57 +55,82 @@ module _ {fields : ℕ} {t : ℕ} {c : Context} where
   pub keeps-this : c.is_static ≡ false → Keeps fields t c c (Holds object) get_this
   keeps-this e = safe-get_this λ own q. q.this e
 
-  pub keeps-get_local : {variable : Variable} (at : ℕ) → slice_get c.locals at ≡ Some variable → Keeps fields t c c (Holds variable.sort) (get_local at)
+  pub keeps-get_local : {variable : Variable} (at : ℕ) → slice_get c.locals at ≡ Some variable →
+      Keeps fields t c c (Holds variable.sort) (get_local at)
   keeps-get_local at e = safe-get_local at λ own q. LocalsFit-get at q.locals e
 
-  pub keeps-put_local : {variable : Variable} {value : Value} (at : ℕ) → slice_get c.locals at ≡ Some variable → Holds variable.sort t value → Keeps fields t c c (Holds variable.sort) (put_local at value)
+  pub keeps-put_local : {variable : Variable} {value : Value} (at : ℕ) → slice_get c.locals at ≡ Some variable →
+      Holds variable.sort t value → Keeps fields t c c (Holds variable.sort) (put_local at value)
   keeps-put_local {value = value} at e r = safe-put_local at value
-      (λ own q. let old = LocalsFit-get at q.locals e in (old.0, old.1, record { this = q.this; locals = LocalsFit-set at q.locals e r; room = rw length-set q.room }))
+      (λ own q.
+      let old = LocalsFit-get at q.locals e in
+      (old.0, old.1, record { this = q.this; locals = LocalsFit-set at q.locals e r; room = rw length-set q.room }))
       r
 
-  pub keeps-binary : {a b : Value} (op : BinOp) → Holds int t a → Holds int t b → Keeps fields t c c (Holds int) (binary op a b)
+  pub keeps-binary : {a b : Value} (op : BinOp) → Holds int t a → Holds int t b →
+      Keeps fields t c c (Holds int) (binary op a b)
   keeps-binary op (an_int {x = x}) (an_int {x = y}) = safe-binary op x y an_int
 
-  pub keeps-read_field : {value : Value} (program : Program) (number : ℕ) → field_slot program one_class number ≡ Some number → number < fields → Holds object t value →
+  pub keeps-read_field : {value : Value} (program : Program) (number : ℕ) →
+      field_slot program one_class number ≡ Some number → number < fields → Holds object t value →
       Keeps fields t c c (Holds int) (read_field program one_class number value)
-  keeps-read_field program number e h (an_object {o = o} b) = safe-read_field program one_class number o e λ objects q. slot_at_object o.0 number b h q
+  keeps-read_field program number e h (an_object {o = o} b) =
+      safe-read_field program one_class number o e λ objects q. slot_at_object o.0 number b h q
 
-  pub keeps-write_field : {value stored : Value} (program : Program) (number : ℕ) → field_slot program one_class number ≡ Some number → number < fields → Holds object t value → Holds int t stored →
+  pub keeps-write_field : {value stored : Value} (program : Program) (number : ℕ) →
+      field_slot program one_class number ≡ Some number → number < fields → Holds object t value → Holds int t stored →
       Keeps fields t c c (Holds int) (write_field program one_class number value stored)
-  keeps-write_field program number e h (an_object {o = o} b) (an_int {x = x}) = safe-write_field program one_class number o (Int x) e (λ objects q. set_slot o.0 number x b h q) an_int
+  keeps-write_field program number e h (an_object {o = o} b) (an_int {x = x}) =
+      safe-write_field program one_class number o (Int x) e (λ objects q. set_slot o.0 number x b h q) an_int
 
   -- the first value of a local, which is declared from then on
-  pub keeps-initialize : {value : Value} (variable : Variable) → length c.locals < c.room → Holds variable.sort t value →
+  pub keeps-initialize : {value : Value} (variable : Variable) → length c.locals < c.room →
+      Holds variable.sort t value →
       Keeps fields t c (declaring c variable) (Holds variable.sort) (put_local (length c.locals) value)
   keeps-initialize {value = value} variable h r = safe-put_local (length c.locals) value
       (λ own q.
-      let within : length c.locals < length own.locals = subst (λ n. length c.locals < n) (sym q.room) h in
-      (get_or own.locals (length c.locals) Null, slice_get-get_or own.locals (length c.locals) Null within, record { this = q.this; locals = LocalsFit-declare variable q.locals within r; room = rw length-set q.room }))
+      let within : length c.locals < length own.locals = subst (λ n. length c.locals < n) (sym q.room) h in (
+        get_or own.locals (length c.locals) Null,
+        slice_get-get_or own.locals (length c.locals) Null within,
+        record { this = q.this; locals = LocalsFit-declare variable q.locals within r; room = rw length-set q.room },
+      ))
       r
 
-  pub keeps-make : {slots : List Value} (program : Program) → fresh_slots program one_class ≡ Some slots → Ints fields slots →
+  pub keeps-make : {slots : List Value} (program : Program) → fresh_slots program one_class ≡ Some slots →
+      Ints fields slots →
       Keeps fields t c c (λ u o. Holds object u (Ref o)) (make program one_class)
   keeps-make program e r = safe-make program one_class e λ u l objects q.
       (suc u, omega arith, push_object r q, an_object (let made : length objects ≡ u = q.length_is in omega arith))
 
 -- the locals with which a method of int parameters begins
-locals-begin : {count : ℕ} (params : List NameId) (given rest : List Value) → Ints (length params) given → LocalsFit count (map int_local params) (given ++ rest)
+locals-begin : {count : ℕ} (params : List NameId) (given rest : List Value) → Ints (length params) given →
+    LocalsFit count (map int_local params) (given ++ rest)
 locals-begin [] given rest q = no_more
 locals-begin (x ∷ params) [] rest q = absurd (let e : 0 ≡ suc (length params) = q.length_is in omega arith)
 locals-begin (x ∷ params) (value ∷ given) rest q =
     more (by (All-head IsInt value given q.all))
-    (locals-begin params given rest (record { length_is = let e : length (value ∷ given) ≡ suc (length params) = q.length_is in omega arith; all = All-tail IsInt value given q.all }))
+    (locals-begin params given rest (record {
+      length_is = let e : length (value ∷ given) ≡ suc (length params) = q.length_is in omega arith;
+      all = All-tail IsInt value given q.all;
+    }))
   where
     by : {count : ℕ} {v : Value} → IsInt v → Holds int count v
     by is_int = an_int
 
-pub own-begins : {count : ℕ} {is_static : Bool} (method : Method) (this : Value) (params : List NameId) (given : List Value) → length params ≤ length method.locals.items → Ints (length params) given →
-    (is_static ≡ false → Holds object count this) → OwnFits count (begins is_static params method) (record { this = this; locals = locals_for method given })
+pub own-begins : {count : ℕ} {is_static : Bool} (method : Method) (this : Value) (params : List NameId) (given : List Value) →
+    length params ≤ length method.locals.items → Ints (length params) given →
+    (is_static ≡ false → Holds object count this) →
+    OwnFits count (begins is_static params method) (record { this = this; locals = locals_for method given })
 own-begins method this params given room q r = record {
   this = r;
   locals = locals-begin params given _ q;
   room =
       let defaults = map (λ (local : Local). default_of local.ty) (drop (length given) method.locals.items) in
       let e : length given ≡ length params = q.length_is in
-      omega (arith, length-append given defaults, length-map (drop (length given) method.locals.items) (λ (local : Local). default_of local.ty), length-drop (length given) method.locals.items);
+      omega (
+        arith,
+        length-append given defaults,
+        length-drop (length given) method.locals.items,
+        length-map (drop (length given) method.locals.items) (λ (local : Local). default_of local.ty),
+      );
 }

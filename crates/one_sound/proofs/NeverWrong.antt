@@ -25,7 +25,8 @@ use Rattle.one_sound.proofs.Values.{IsInt, IsOwnObject, Holds, no_more}
 abbrev outside : Context
 outside = record { is_static = true; locals = []; room = 0 }
 
-main-keeps : {names : List (List ℕ)} {members : Members} {program : Program} {main : ℕ} → ProgramTyped members program → IsMain names members main →
+main-keeps : {names : List (List ℕ)} {members : Members} {program : Program} {main : ℕ} → ProgramTyped members program →
+    IsMain names members main →
     Keeps (length members.fields) 0 outside outside (Holds int) (call_method program (java program) one_class main Null [])
 main-keeps {main = main} p q =
     let found = p.method main _ q.head in
@@ -34,7 +35,8 @@ main-keeps {main = main} p q =
 done : {count : ℕ} {value : Value} (s : State) → Holds int count value → Replies (Done value s)
 done s Holds.an_int = an_int
 
-pub main_replies : (names all_names : List (List ℕ)) (one : OneTree) (program : Program) (main units : ℕ) → Fits names one → Elaborates all_names one program → IsMain names (members_of one) main →
+pub main_replies : (names all_names : List (List ℕ)) (one : OneTree) (program : Program) (main units : ℕ) → Fits names one →
+    Elaborates all_names one program → IsMain names (members_of one) main →
     Replies (call program units one_class main Null [] [])
 main_replies names all_names one program main units fits q is_main = (main-keeps (program-typed fits q) is_main).run Done ends
     (record { from = λ u l value h s fine. done s h })
@@ -57,6 +59,7 @@ pub replies-not_wrong : (answer : Answer) → Replies answer → answer ≢ Wron
 replies-not_wrong answer an_int e = cc
 replies-not_wrong answer units_spent e = cc
 
-pub main_not_wrong : (names all_names : List (List ℕ)) (one : OneTree) (program : Program) (main units : ℕ) → Fits names one → Elaborates all_names one program → IsMain names (members_of one) main →
+pub main_not_wrong : (names all_names : List (List ℕ)) (one : OneTree) (program : Program) (main units : ℕ) → Fits names one →
+    Elaborates all_names one program → IsMain names (members_of one) main →
     call program units one_class main Null [] [] ≢ Wrong
 main_not_wrong names all_names one program main units fits q is_main = replies-not_wrong _ (main_replies names all_names one program main units fits q is_main)

@@ -1,8 +1,14 @@
 -- A worked row: a One that fits, the core program that it comes to, and its reply. So the law's premises are met.
 --
--- class One { int n; int more(int by) { n = n + by; return n; } static int main() { One o = new One(); int k = o.more(2 + 3); return o.more(k); } }
+-- class One {
+--   int n;
+--   int more(int by) { n = n + by; return n; }
+--   static int main() { One o = new One(); int k = o.more(2 + 3); return o.more(k); }
+-- }
+--
+-- And one that doesn't fit, and goes wrong.
 use Rattle.std.proofs.Common.{◌≡◌, ◌<◌, ℕ, List, [], ◌∷◌, length, Some, None, refl, inl, inr, arith}
-use Rattle.std.specs.Prelude.{Bool, pos, true, false, codes}
+use Rattle.std.specs.Prelude.{slice_get, Bool, pos, true, false, codes}
 use Rattle.std.specs.declared.rc.Rc.{Rc}
 use Rattle.std.specs.declared.vec.Vec.{Vec}
 use Rattle.std.specs.declared.alloc.Global.{Global}
@@ -31,7 +37,8 @@ use Rattle.je_java.specs.Opened.{opened}
 use Rattle.one_syntax.specs.Trees.{ExprTree, ExprTrees, StatementTree, OneTree}
 use Rattle.one_syntax.specs.Trees as tree
 use Rattle.one_program.specs.Scope.{Scope, local_of, members_of, scope_of}
-use Rattle.one_program.specs.Conditions.{IsIntName, Fits, IsMain}
+use Rattle.one_program.specs.declared.scope.Sort.TheVariants.{Object as object}
+use Rattle.one_program.specs.Conditions.{IsIntName, NamesMethod, MemberFits, Fits, IsMain}
 use Rattle.one_program.specs.Elaboration.{one_class, int_type, class_type, void_type, IsLocal, IsOwnField, IsConstant, IsExpr, is_constant, is_local, is_field, is_binary, is_call, calls_own, calls_on, no_exprs, more_exprs, is_declare, is_make, is_assign_field, is_return, is_next, no_locals, more_locals, IsDefaultConstructor, IsMethod, no_methods, past_field, one_method, no_fields, more_fields, Elaborates}
 use Rattle.one_sound.specs.Replies.{Replies}
 use Rattle.one_sound.proofs.NeverWrong.{main_replies, main_not_wrong}
@@ -47,32 +54,47 @@ names = codes "One" ∷ codes "n" ∷ codes "more" ∷ codes "by" ∷ codes "mai
 abbrev more_body : List StatementTree
 more_body = tree.assign (id 1) (tree.binary Add (tree.name (id 1)) (tree.name (id 3))) ∷ []
 
+abbrev more_on_o : ExprTree → ExprTree
+more_on_o t = tree.call (Some (id 5)) (id 2) (tree.more t tree.none)
+
 abbrev main_body : List StatementTree
-main_body = tree.make (id 0) (id 5) (id 0) ∷ tree.declare (id 6) (tree.call (Some (id 5)) (id 2) (tree.more (tree.binary Add (tree.decimal 2) (tree.decimal 3)) tree.none)) ∷ []
+main_body = tree.make (id 0) (id 5) (id 0) ∷ tree.declare (id 6) (more_on_o (tree.binary Add (tree.decimal 2) (tree.decimal 3))) ∷ []
 
 abbrev one : OneTree
 one = record {
   name = id 0;
   members = tree.field (id 1) ∷ tree.method false (id 2) (id 3 ∷ []) more_body (tree.name (id 1)) ∷
-      tree.method true (id 4) [] main_body (tree.call (Some (id 5)) (id 2) (tree.more (tree.name (id 6)) tree.none)) ∷ [];
+      tree.method true (id 4) [] main_body (more_on_o (tree.name (id 6))) ∷ [];
 }
 
--- what the names of its bodies stand for
+-- what its names stand for
+
 field_n : IsIntName (scope_of (members_of one) false (id 3 ∷ []) more_body) (id 1)
 field_n = record { allowed = refl; found = inr (refl, refl) }
+
+names_more : (scope : Scope) → scope.members ≡ members_of one → local_of scope (id 5) ≡ Some 0 →
+    slice_get scope.locals 0 ≡ Some (record { name = id 5; sort = object }) → NamesMethod scope (Some (id 5)) (id 2) 1
+names_more scope m l h = (record { number = 0; found = l; holds = h }, (0, record { found = rw m refl; head = rw m refl }))
+
+more_fits : MemberFits names (members_of one) (tree.method false (id 2) (id 3 ∷ []) more_body (tree.name (id 1)))
+more_fits = (refl, (refl, tt), ((field_n, (field_n, record { allowed = refl; found = inl refl })), field_n))
+
+main_fits : MemberFits names (members_of one) (tree.method true (id 4) [] main_body (more_on_o (tree.name (id 6))))
+main_fits = (
+  refl,
+  tt,
+  (
+    (refl, refl, refl),
+    ((refl, (names_more _ refl refl refl, ((omega arith, omega arith), tt))), (names_more _ refl refl refl, (record { allowed = refl; found = inl refl }, tt))),
+  ),
+)
 
 fits : Fits names one
 fits = record {
   class = refl;
   fields = (refl, tt);
   methods = (refl, (refl, tt));
-  members = (
-    tt,
-    (
-      (refl, (refl, tt), ((field_n, (field_n, record { allowed = refl; found = inl refl })), field_n)),
-      ((refl, tt, ((refl, refl, refl), ((refl, (((record { number = 0; found = refl; holds = refl }), (0, (record { found = refl; head = refl }))), ((omega arith, omega arith), tt))), (((record { number = 0; found = refl; holds = refl }), (0, (record { found = refl; head = refl }))), (record { allowed = refl; found = inl refl }, tt))))), tt),
-    ),
-  );
+  members = (tt, (more_fits, (main_fits, tt)));
   main = (1, record { name = id 4; text = refl; head = refl });
 }
 
@@ -124,7 +146,8 @@ module _ (ptr : Ptr) (global : Global) where
     returns = int_type;
     flags = record { is_static = false };
     locals = one_of (local 3 int_type);
-    body = Some (statement (Block none (vec (does (node (Assign field_of_this (node (Binary Add field_of_this (int_local 0)) int_type)) int_type) ∷ gives field_of_this ∷ []) (omega arith))));
+    body = Some (statement (Block none (vec (
+        does (node (Assign field_of_this (node (Binary Add field_of_this (int_local 0)) int_type)) int_type) ∷ gives field_of_this ∷ []) (omega arith))));
   }
 
   abbrev main_made : Method
@@ -142,7 +165,15 @@ module _ (ptr : Ptr) (global : Global) where
   }
 
   abbrev constructor_made : Method
-  constructor_made = record { name = id 7; span = nowhere; params = none; returns = void_type; flags = record { is_static = false }; locals = none; body = Some (statement (Block none none)) }
+  constructor_made = record {
+    name = id 7;
+    span = nowhere;
+    params = none;
+    returns = void_type;
+    flags = record { is_static = false };
+    locals = none;
+    body = Some (statement (Block none none));
+  }
 
   abbrev class_made : Class
   class_made = record {
@@ -185,33 +216,38 @@ module _ (ptr : Ptr) (global : Global) where
     has_body = refl;
     parts = _;
     is_block = record { locals = _; nodes = _; form = refl; declared_are = refl; parts_are = refl };
-    is_body = is_next (is_assign_field refl refl (record { done = _; form = refl; is = refl }) (record { to = _; from = _; form = refl; place_is = refl; value_is = refl; type = refl }) own_n
+    is_body = is_next (is_assign_field refl refl (record { done = _; form = refl; is = refl })
+        (record { to = _; from = _; form = refl; place_is = refl; value_is = refl; type = refl }) own_n
         (is_binary refl refl (is_field refl refl own_n) (is_local refl (is_int_local 0)) refl))
         (is_return refl (is_field refl refl own_n));
   }
 
   -- o.more(e)
-  is_more : {scope : Scope} {t : ExprTree} (e : Rc Expr Global) → scope.members ≡ members_of one → local_of scope (id 5) ≡ Some 0 → IsExpr scope t e.value →
-      IsExpr scope (tree.call (Some (id 5)) (id 2) (tree.more t tree.none)) (more_of e).value
+  is_more : {scope : Scope} {t : ExprTree} (e : Rc Expr Global) → scope.members ≡ members_of one →
+      local_of scope (id 5) ≡ Some 0 → IsExpr scope t e.value →
+      IsExpr scope (more_on_o t) (more_of e).value
   unfolding layers
   is_more e m l q = is_call (calls_on {x = id 2} {number = 0} l (record { found = rw m refl; head = rw m refl }) refl is_object_local (more_exprs q no_exprs) refl)
 
-  main_is : IsMethod (members_of one) true (id 4) [] main_body (tree.call (Some (id 5)) (id 2) (tree.more (tree.name (id 6)) tree.none)) main_made
+  main_is : IsMethod (members_of one) true (id 4) [] main_body (more_on_o (tree.name (id 6))) main_made
   unfolding layers int_wrap
   main_is = record {
     name = refl;
     params_are = refl;
     returns = refl;
     flag = refl;
-    locals = more_locals (record { name = refl; type = refl; open_to_writes = refl }) (more_locals (record { name = refl; type = refl; open_to_writes = refl }) no_locals);
+    locals = more_locals (record { name = refl; type = refl; open_to_writes = refl })
+        (more_locals (record { name = refl; type = refl; open_to_writes = refl }) no_locals);
     block = _;
     has_body = refl;
     parts = _;
     is_block = record { locals = _; nodes = _; form = refl; declared_are = refl; parts_are = refl };
     is_body =
-        is_next (is_make (record { done = _; form = refl; is = refl }) (record { to = _; from = _; form = refl; place_is = refl; value_is = refl; type = refl }) is_object_local
+        is_next (is_make (record { done = _; form = refl; is = refl })
+        (record { to = _; from = _; form = refl; place_is = refl; value_is = refl; type = refl }) is_object_local
         (record { args = _; form = refl; none = refl; type = refl }))
-        (is_next (is_declare (record { done = _; form = refl; is = refl }) (record { to = _; from = _; form = refl; place_is = refl; value_is = refl; type = refl }) (is_int_local 1)
+        (is_next (is_declare (record { done = _; form = refl; is = refl })
+        (record { to = _; from = _; form = refl; place_is = refl; value_is = refl; type = refl }) (is_int_local 1)
         (is_more _ refl refl (is_constant refl is_five)))
         (is_return refl (is_more _ refl refl (is_local refl (is_int_local 1)))));
   }
@@ -263,9 +299,14 @@ module _ (ptr : Ptr) (global : Global) where
   unfolding java meanings opened layers int_wrap
   reply = refl
 
-  -- class One { int more() { return 1; } static int main() { return more(); } } doesn't fit, for all that it comes to a core program: there is no object to call `more` on
+  -- class One { int more() { return 1; } static int main() { return more(); } }
+  --
+  -- It comes to a core program, but has no object to call `more` on.
   abbrev unfit : OneTree
-  unfit = record { name = id 0; members = tree.method false (id 2) [] [] (tree.decimal 1) ∷ tree.method true (id 4) [] [] (tree.call None (id 2) tree.none) ∷ [] }
+  unfit = record {
+    name = id 0;
+    members = tree.method false (id 2) [] [] (tree.decimal 1) ∷ tree.method true (id 4) [] [] (tree.call None (id 2) tree.none) ∷ [];
+  }
 
   abbrev returning : ℕ → Bool → Rc Expr Global → Method
   returning x is_static e = record {
@@ -285,12 +326,14 @@ module _ (ptr : Ptr) (global : Global) where
       span = nowhere;
       superclass = None;
       fields = none;
-      methods = vec (returning 2 false (node (Const (Int (pos 1)) none) int_type) ∷ returning 4 true (node (CallVirtual (node This class_type) one_class 0 none) int_type) ∷ constructor_made ∷ []) (omega arith);
+      methods = vec (returning 2 false (node (Const (Int (pos 1)) none) int_type) ∷
+          returning 4 true (node (CallVirtual (node This class_type) one_class 0 none) int_type) ∷ constructor_made ∷ []) (omega arith);
     });
     texts = none;
   }
 
-  is_returning : {x : ℕ} {is_static : Bool} {t : ExprTree} (e : Rc Expr Global) → IsExpr (scope_of (members_of unfit) is_static [] []) t e.value →
+  is_returning : {x : ℕ} {is_static : Bool} {t : ExprTree} (e : Rc Expr Global) →
+      IsExpr (scope_of (members_of unfit) is_static [] []) t e.value →
       IsMethod (members_of unfit) is_static (id x) [] [] t (returning x is_static e)
   unfolding layers
   is_returning e q = record {

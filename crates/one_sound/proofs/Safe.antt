@@ -52,42 +52,49 @@ module _ (I : Invariant) where
 
   -- ways out that go on well from any own variables, with the values that a body returns
   pub record ExitsFit (t : I.Time) (L : Known Value) (exits : Exits) : Type 0 where
-    pub leave : (u : I.Time) → I.Later t u → (value : Value) → L u value → (s : State) → I.ObjectsFit u s.objects → I.Fine (exits.leave value s)
-    pub throw : (u : I.Time) → I.Later t u → (exception : ObjId) → I.Throws u exception → (s : State) → I.ObjectsFit u s.objects → I.Fine (exits.throw exception s)
+    pub leave : (u : I.Time) → I.Later t u → (value : Value) → L u value → (s : State) → I.ObjectsFit u s.objects →
+        I.Fine (exits.leave value s)
+    pub throw : (u : I.Time) → I.Later t u → (exception : ObjId) → I.Throws u exception → (s : State) →
+        I.ObjectsFit u s.objects → I.Fine (exits.throw exception s)
 
   -- a computation that is fine from a time and a context on: it goes from that context to another, gives values of
   -- which Q is known, and leaves its body with values of which L is known
   pub record Safe {A : Type 0} (L : Known Value) (t : I.Time) (c d : I.Context) (Q : Known A) (m : Computation A) : Type 0 where
-    pub run : (go : A → Run) (exits : Exits) → GoesOn t d Q go → ExitsFit t L exits → (s : State) → StateFits t c s → I.Fine (m go exits s)
+    pub run : (go : A → Run) (exits : Exits) → GoesOn t d Q go → ExitsFit t L exits → (s : State) → StateFits t c s →
+        I.Fine (m go exits s)
 
 -- of which nothing is known
 pub record Any {T A : Type 0} (t : T) (a : A) : Type 0 where
 
 module _ {I : Invariant} where
-  later-exits : {t u : I.Time} {L : Known I Value} {exits : Exits} → I.Later t u → ExitsFit I t L exits → ExitsFit I u L exits
+  later-exits : {t u : I.Time} {L : Known I Value} {exits : Exits} → I.Later t u → ExitsFit I t L exits →
+      ExitsFit I u L exits
   later-exits e out = record {
     leave = λ v f. out.leave v (I.join e f);
     throw = λ v f. out.throw v (I.join e f);
   }
 
-  later-on : {A : Type 0} {t u : I.Time} {c : I.Context} {Q : Known I A} {go : A → Run} → I.Later t u → GoesOn I t c Q go → GoesOn I u c Q go
+  later-on : {A : Type 0} {t u : I.Time} {c : I.Context} {Q : Known I A} {go : A → Run} → I.Later t u →
+      GoesOn I t c Q go → GoesOn I u c Q go
   later-on e on = record { from = λ v f. on.from v (I.join e f) }
 
+module _ {I : Invariant} {L : Known I Value} {t : I.Time} {c : I.Context} where
   -- combinators
 
-  pub safe-ret : {A : Type 0} {L : Known I Value} {t : I.Time} {c : I.Context} {Q : Known I A} (a : A) → Q t a → Safe I L t c c Q (ret a)
+  pub safe-ret : {A : Type 0} {Q : Known I A} (a : A) → Q t a → Safe I L t c c Q (ret a)
   unfolding ret
-  safe-ret {t = t} a q = record { run = λ go exits on out. on.from t (I.same t) a q }
+  safe-ret a q = record { run = λ go exits on out. on.from t (I.same t) a q }
 
-  pub safe-bind : {A B : Type 0} {L : Known I Value} {t : I.Time} {c d e : I.Context} {P : Known I A} {Q : Known I B} {m : Computation A} {f : A → Computation B} →
-      Safe I L t c d P m → ((u : I.Time) → I.Later t u → (a : A) → P u a → Safe I L u d e Q (f a)) → Safe I L t c e Q (bind m f)
+  pub safe-bind : {A B : Type 0} {d e : I.Context} {P : Known I A} {Q : Known I B} {m : Computation A} {f : A → Computation B} →
+      Safe I L t c d P m → ((u : I.Time) → I.Later t u → (a : A) → P u a → Safe I L u d e Q (f a)) →
+      Safe I L t c e Q (bind m f)
   unfolding bind
   safe-bind p r = record {
     run = λ go exits on out. p.run _ exits
         (record { from = λ u l a q. (r u l a q).run go exits (later-on l on) (later-exits l out) }) out;
   }
 
-  pub safe-seq : {A B : Type 0} {L : Known I Value} {t : I.Time} {c d e : I.Context} {P : Known I A} {Q : Known I B} {m : Computation A} {n : Computation B} →
+  pub safe-seq : {A B : Type 0} {d e : I.Context} {P : Known I A} {Q : Known I B} {m : Computation A} {n : Computation B} →
       Safe I L t c d P m → ((u : I.Time) → I.Later t u → Safe I L u d e Q n) → Safe I L t c e Q (seq m n)
   unfolding seq
   safe-seq p r = record {
@@ -95,32 +102,35 @@ module _ {I : Invariant} where
         (record { from = λ u l a q. (r u l).run go exits (later-on l on) (later-exits l out) }) out;
   }
 
-  pub safe-yields : {L : Known I Value} {t : I.Time} {c d : I.Context} {P Q : Known I Value} {m : Computation Value} (value : Value) →
+  pub safe-yields : {d : I.Context} {P Q : Known I Value} {m : Computation Value} (value : Value) →
       Safe I L t c d P m → ((u : I.Time) → I.Later t u → Q u value) → Safe I L t c d Q (yields value m)
   unfolding yields
   safe-yields value p r = record { run = λ go exits on out. p.run _ exits (record { from = λ u l a q. on.from u l value (r u l) }) out }
 
-  pub safe-spent : {A : Type 0} {L : Known I Value} {t : I.Time} {c d : I.Context} {Q : Known I A} → Safe I L t c d Q spent
+  pub safe-spent : {A : Type 0} {d : I.Context} {Q : Known I A} → Safe I L t c d Q spent
   unfolding spent
   safe-spent = record { run = λ go exits on out s fits. I.spent_is_fine s }
 
-  pub safe-throw : {A : Type 0} {L : Known I Value} {t : I.Time} {c d : I.Context} {Q : Known I A} (exception : ObjId) → I.Throws t exception → Safe I L t c d Q (throw exception)
+  pub safe-throw : {A : Type 0} {d : I.Context} {Q : Known I A} (exception : ObjId) →
+      I.Throws t exception → Safe I L t c d Q (throw exception)
   unfolding throw
-  safe-throw {t = t} exception q = record { run = λ go exits on out s fits. out.throw t (I.same t) exception q s fits.objects }
+  safe-throw exception q = record { run = λ go exits on out s fits. out.throw t (I.same t) exception q s fits.objects }
 
-  pub safe-leave : {A : Type 0} {L : Known I Value} {t : I.Time} {c d : I.Context} {Q : Known I A} (value : Value) → L t value → Safe I L t c d Q (leave value)
+  pub safe-leave : {A : Type 0} {d : I.Context} {Q : Known I A} (value : Value) →
+      L t value → Safe I L t c d Q (leave value)
   unfolding leave
-  safe-leave {t = t} value q = record { run = λ go exits on out s fits. out.leave t (I.same t) value q s fits.objects }
+  safe-leave value q = record { run = λ go exits on out s fits. out.leave t (I.same t) value q s fits.objects }
 
   -- what is needed is there
-  pub safe-need : {A B : Type 0} {L : Known I Value} {t : I.Time} {c d : I.Context} {Q : Known I B} {option : Option A} {a : A} (f : A → Computation B) →
+  pub safe-need : {A B : Type 0} {d : I.Context} {Q : Known I B} {option : Option A} {a : A} (f : A → Computation B) →
       option ≡ Some a → Safe I L t c d Q (f a) → Safe I L t c d Q (bind (need option) f)
   unfolding bind need
   safe-need f e p = rw e (record { run = λ go exits on out. p.run go exits on out })
 
   -- a body in a context of its own, which leaves with values as those that the call gives, or comes to its end
-  pub safe-framed : {L P Q : Known I Value} {t : I.Time} {c d e : I.Context} {m : Computation Nothing} (own : Own) (ends : Value) →
-      I.OwnFits t d own → Safe I P t d e Any m → ((u : I.Time) (value : Value) → P u value → Q u value) → ((u : I.Time) → I.Later t u → Q u ends) →
+  pub safe-framed : {P Q : Known I Value} {d e : I.Context} {m : Computation Nothing} (own : Own) (ends : Value) →
+      I.OwnFits t d own → Safe I P t d e Any m → ((u : I.Time) (value : Value) → P u value → Q u value) →
+      ((u : I.Time) → I.Later t u → Q u ends) →
       Safe I L t c c Q (framed own ends m)
   unfolding framed
   safe-framed own ends f p gives q = record {
@@ -135,17 +145,18 @@ module _ {I : Invariant} where
 
   -- steps, by what the invariant says of the part of the state that each looks at
 
-  pub safe-tick : {L : Known I Value} {t : I.Time} {c : I.Context} → Safe I L t c c Any tick
+  pub safe-tick : Safe I L t c c Any tick
   unfolding tick
-  safe-tick {t = t} {c = c} = record { run = λ go exits on out s fits. by s.public.units go s (λ s' fits'. on.from t (I.same t) tt (record {}) s' fits') fits }
+  safe-tick = record { run = λ go exits on out s fits. by s.public.units go s (λ s' fits'. on.from t (I.same t) tt (record {}) s' fits') fits }
     where
-      by : (units : ℕ) (go : Nothing → Run) (s : State) → ((s' : State) → StateFits I t c s' → I.Fine (go tt s')) → StateFits I t c s → I.Fine (tick_at units go s)
+      by : (units : ℕ) (go : Nothing → Run) (s : State) → ((s' : State) → StateFits I t c s' → I.Fine (go tt s')) →
+          StateFits I t c s → I.Fine (tick_at units go s)
       by zero go s on fits = I.spent_is_fine s
       by (suc units) go s on fits = on _ (record { objects = fits.objects; own = fits.own })
 
-  pub safe-charge : {L : Known I Value} {t : I.Time} {c : I.Context} (cost : ℕ) → Safe I L t c c Any (charge cost)
+  pub safe-charge : (cost : ℕ) → Safe I L t c c Any (charge cost)
   unfolding charge
-  safe-charge {t = t} {c = c} cost = record {
+  safe-charge cost = record {
     run = λ go exits on out s fits.
         by (nat_le cost s.public.units) (on.from t (I.same t) tt (record {}) (with_units s (s.public.units - cost)) (record { objects = fits.objects; own = fits.own })) (I.spent_is_fine s);
   }
@@ -154,56 +165,63 @@ module _ {I : Invariant} where
       by true p q = p
       by false p q = q
 
-  pub safe-get_this : {L : Known I Value} {t : I.Time} {c : I.Context} {Q : Known I Value} → ((own : Own) → I.OwnFits t c own → Q t own.this) → Safe I L t c c Q get_this
+  pub safe-get_this : {Q : Known I Value} → ((own : Own) → I.OwnFits t c own → Q t own.this) → Safe I L t c c Q get_this
   unfolding get_this
-  safe-get_this {t = t} q = record { run = λ go exits on out s fits. on.from t (I.same t) _ (q s.own fits.own) s fits }
+  safe-get_this q = record { run = λ go exits on out s fits. on.from t (I.same t) _ (q s.own fits.own) s fits }
 
-  pub safe-get_local : {L : Known I Value} {t : I.Time} {c : I.Context} {Q : Known I Value} (at : ℕ) →
-      ((own : Own) → I.OwnFits t c own → (value : Value) × (slice_get own.locals at ≡ Some value) × Q t value) → Safe I L t c c Q (get_local at)
+  pub safe-get_local : {Q : Known I Value} (at : ℕ) →
+      ((own : Own) → I.OwnFits t c own → (value : Value) × (slice_get own.locals at ≡ Some value) × Q t value) →
+      Safe I L t c c Q (get_local at)
   unfolding get_local
-  safe-get_local {t = t} at q = record {
+  safe-get_local at q = record {
     run = λ go exits on out s fits.
         let found = q s.own fits.own in
         rw found.1 (on.from t (I.same t) found.0 found.2 s fits);
   }
 
-  pub safe-put_local : {L : Known I Value} {t : I.Time} {c d : I.Context} {Q : Known I Value} (at : ℕ) (value : Value) →
-      ((own : Own) → I.OwnFits t c own → (old : Value) × (slice_get own.locals at ≡ Some old) × I.OwnFits t d (record own { locals = slice_set own.locals at value })) →
+  pub safe-put_local : {d : I.Context} {Q : Known I Value} (at : ℕ) (value : Value) →
+      ((own : Own) → I.OwnFits t c own →
+      (old : Value) × (slice_get own.locals at ≡ Some old) × I.OwnFits t d (record own { locals = slice_set own.locals at value })) →
       Q t value → Safe I L t c d Q (put_local at value)
   unfolding put_local
-  safe-put_local {t = t} at value q r = record {
+  safe-put_local at value q r = record {
     run = λ go exits on out s fits.
         let found = q s.own fits.own in
         rw found.1 (on.from t (I.same t) value r (with_own s (record s.own { locals = slice_set s.own.locals at value })) (record { objects = fits.objects; own = found.2 }));
   }
 
-  pub safe-get_class : {L : Known I Value} {t : I.Time} {c : I.Context} {Q : Known I ClassId} (object : ObjId) (class : ClassId) →
-      ((objects : List Obj) → I.ObjectsFit t objects → class_of objects object.0 ≡ Some class) → Q t class → Safe I L t c c Q (get_class object)
+  pub safe-get_class : {Q : Known I ClassId} (object : ObjId) (class : ClassId) →
+      ((objects : List Obj) → I.ObjectsFit t objects → class_of objects object.0 ≡ Some class) → Q t class →
+      Safe I L t c c Q (get_class object)
   unfolding get_class
-  safe-get_class {t = t} object class q r = record { run = λ go exits on out s fits. rw (q s.objects fits.objects) (on.from t (I.same t) class r s fits) }
+  safe-get_class object class q r = record { run = λ go exits on out s fits. rw (q s.objects fits.objects) (on.from t (I.same t) class r s fits) }
 
-  pub safe-get_slot : {L : Known I Value} {t : I.Time} {c : I.Context} {Q : Known I Value} (object : ObjId) (at : ℕ) →
-      ((objects : List Obj) → I.ObjectsFit t objects → (value : Value) × (slot_of objects object.0 at ≡ Some value) × Q t value) → Safe I L t c c Q (get_slot object at)
+  pub safe-get_slot : {Q : Known I Value} (object : ObjId) (at : ℕ) →
+      ((objects : List Obj) → I.ObjectsFit t objects →
+      (value : Value) × (slot_of objects object.0 at ≡ Some value) × Q t value) →
+      Safe I L t c c Q (get_slot object at)
   unfolding get_slot
-  safe-get_slot {t = t} object at q = record {
+  safe-get_slot object at q = record {
     run = λ go exits on out s fits.
         let found = q s.objects fits.objects in
         rw found.1 (on.from t (I.same t) found.0 found.2 s fits);
   }
 
-  pub safe-put_slot : {L : Known I Value} {t : I.Time} {c : I.Context} {Q : Known I Value} (object : ObjId) (at : ℕ) (value : Value) →
-      ((objects : List Obj) → I.ObjectsFit t objects → (old : Value) × (slot_of objects object.0 at ≡ Some old) × I.ObjectsFit t (with_slot objects object.0 at value)) →
+  pub safe-put_slot : {Q : Known I Value} (object : ObjId) (at : ℕ) (value : Value) →
+      ((objects : List Obj) → I.ObjectsFit t objects →
+      (old : Value) × (slot_of objects object.0 at ≡ Some old) × I.ObjectsFit t (with_slot objects object.0 at value)) →
       Q t value → Safe I L t c c Q (put_slot object at value)
   unfolding put_slot
-  safe-put_slot {t = t} object at value q r = record {
+  safe-put_slot object at value q r = record {
     run = λ go exits on out s fits.
         let found = q s.objects fits.objects in
         rw found.1 (on.from t (I.same t) value r (with_objects s (with_slot s.objects object.0 at value)) (record { objects = found.2; own = fits.own }));
   }
 
   -- what is known of the objects grows by the new one
-  pub safe-new_object : {L : Known I Value} {t : I.Time} {c : I.Context} {Q : Known I ObjId} (object : Obj) →
-      ((objects : List Obj) → I.ObjectsFit t objects → (u : I.Time) × I.Later t u × I.ObjectsFit u (objects ++ object ∷ []) × Q u (record { 0 = length objects })) →
+  pub safe-new_object : {Q : Known I ObjId} (object : Obj) →
+      ((objects : List Obj) → I.ObjectsFit t objects →
+      (u : I.Time) × I.Later t u × I.ObjectsFit u (objects ++ object ∷ []) × Q u (record { 0 = length objects })) →
       Safe I L t c c Q (new_object object)
   unfolding new_object
   safe-new_object object q = record {
@@ -212,13 +230,15 @@ module _ {I : Invariant} where
         on.from made.0 made.1 (record { 0 = length s.objects }) made.3 (with_objects s (s.objects ++ object ∷ [])) (record { objects = made.2; own = I.keeps_own made.1 fits.own });
   }
 
+module _ {I : Invariant} {L : Known I Value} {t : I.Time} {c : I.Context} where
   -- steps made of these
 
-  pub safe-binary : {L : Known I Value} {t : I.Time} {c : I.Context} {Q : Known I Value} (op : BinOp) (x y : ℤ) → Q t (Int (operate op x y)) → Safe I L t c c Q (binary op (Int x) (Int y))
+  pub safe-binary : {Q : Known I Value} (op : BinOp) (x y : ℤ) →
+      Q t (Int (operate op x y)) → Safe I L t c c Q (binary op (Int x) (Int y))
   unfolding binary
   safe-binary op x y q = safe-need _ refl (safe-need _ refl (safe-ret (Int (operate op x y)) q))
 
-  pub safe-make : {L : Known I Value} {t : I.Time} {c : I.Context} {Q : Known I ObjId} {slots : List Value} (program : Program) (class : ClassId) →
+  pub safe-make : {Q : Known I ObjId} {slots : List Value} (program : Program) (class : ClassId) →
       fresh_slots program class ≡ Some slots →
       ((u : I.Time) → I.Later t u → (objects : List Obj) → I.ObjectsFit u objects →
       (v : I.Time) × I.Later u v × I.ObjectsFit v (objects ++ Instance class slots ∷ []) × Q v (record { 0 = length objects })) →
@@ -227,7 +247,7 @@ module _ {I : Invariant} where
   safe-make {slots = slots} program class e q = safe-need _ e (safe-seq (safe-charge (length slots)) λ u l. safe-new_object _ (q u l))
 
   -- an exception that is thrown once it is made
-  pub safe-raise : {A : Type 0} {L : Known I Value} {t : I.Time} {c d : I.Context} {Q : Known I A} {slots : List Value} (program : Program) (class : ClassId) →
+  pub safe-raise : {A : Type 0} {d : I.Context} {Q : Known I A} {slots : List Value} (program : Program) (class : ClassId) →
       fresh_slots program class ≡ Some slots →
       ((u : I.Time) → I.Later t u → (objects : List Obj) → I.ObjectsFit u objects →
       (v : I.Time) × I.Later u v × I.ObjectsFit v (objects ++ Instance class slots ∷ []) × I.Throws v (record { 0 = length objects })) →
@@ -236,28 +256,32 @@ module _ {I : Invariant} where
   safe-raise program class e q = safe-bind (safe-make program class e q) λ u l exception r. safe-throw exception r
 
   -- of a reference there is the object
-  pub safe-deref : {B : Type 0} {L : Known I Value} {t : I.Time} {c d : I.Context} {Q : Known I B} (program : Program) (object : ObjId) (f : ObjId → Computation B) →
+  pub safe-deref : {B : Type 0} {d : I.Context} {Q : Known I B} (program : Program) (object : ObjId) (f : ObjId → Computation B) →
       Safe I L t c d Q (f object) → Safe I L t c d Q (bind (deref program (Ref object)) f)
   unfolding deref bind ret
   safe-deref program object f p = record { run = λ go exits on out. p.run go exits on out }
 
-  pub safe-read_field : {L : Known I Value} {t : I.Time} {c : I.Context} {Q : Known I Value} {slot : ℕ} (program : Program) (class : ClassId) (field : ℕ) (object : ObjId) →
+  pub safe-read_field : {Q : Known I Value} {slot : ℕ} (program : Program) (class : ClassId) (field : ℕ) (object : ObjId) →
       field_slot program class field ≡ Some slot →
-      ((objects : List Obj) → I.ObjectsFit t objects → (value : Value) × (slot_of objects object.0 slot ≡ Some value) × Q t value) →
+      ((objects : List Obj) → I.ObjectsFit t objects →
+      (value : Value) × (slot_of objects object.0 slot ≡ Some value) × Q t value) →
       Safe I L t c c Q (read_field program class field (Ref object))
   unfolding read_field
   safe-read_field program class field object e q = safe-deref _ object _ (safe-need _ e (safe-get_slot object _ q))
 
-  pub safe-write_field : {L : Known I Value} {t : I.Time} {c : I.Context} {Q : Known I Value} {slot : ℕ} (program : Program) (class : ClassId) (field : ℕ) (object : ObjId) (value : Value) →
+  pub safe-write_field : {Q : Known I Value} {slot : ℕ} (program : Program) (class : ClassId) (field : ℕ) (object : ObjId) (value : Value) →
       field_slot program class field ≡ Some slot →
-      ((objects : List Obj) → I.ObjectsFit t objects → (old : Value) × (slot_of objects object.0 slot ≡ Some old) × I.ObjectsFit t (with_slot objects object.0 slot value)) →
+      ((objects : List Obj) → I.ObjectsFit t objects →
+      (old : Value) × (slot_of objects object.0 slot ≡ Some old) × I.ObjectsFit t (with_slot objects object.0 slot value)) →
       Q t value → Safe I L t c c Q (write_field program class field (Ref object) value)
   unfolding write_field
   safe-write_field program class field object value e q r = safe-deref _ object _ (safe-need _ e (safe-put_slot object _ value q r))
 
   -- a method's body, with its receiver and its arguments
-  pub safe-run_method : {L P Q : Known I Value} {t : I.Time} {c d e : I.Context} {block : Rc Stmt Global} (m : Meanings) (method : Method) (this : Value) (given : List Value) →
-      method.body ≡ Some block → I.OwnFits t d (record { this = this; locals = locals_for method given }) → Safe I P t d e Any (m.exec block.value) →
-      ((u : I.Time) (value : Value) → P u value → Q u value) → ((u : I.Time) → I.Later t u → Q u (default_of method.returns)) →
+  pub safe-run_method : {P Q : Known I Value} {d e : I.Context} {block : Rc Stmt Global} (m : Meanings) (method : Method) (this : Value) (given : List Value) →
+      method.body ≡ Some block → I.OwnFits t d (record { this = this; locals = locals_for method given }) →
+      Safe I P t d e Any (m.exec block.value) →
+      ((u : I.Time) (value : Value) → P u value → Q u value) →
+      ((u : I.Time) → I.Later t u → Q u (default_of method.returns)) →
       Safe I L t c c Q (run_method m method this given)
   safe-run_method m method this given b f p gives q = safe-need _ b (safe-framed _ _ f p gives q)

@@ -24,98 +24,127 @@ use Rattle.one_sound.proofs.Kept.{Keeps, keeps-this, keeps-get_local, keeps-put_
 
 -- meanings that keep what holds
 pub record KeepsAll (members : Members) (m : Meanings) : Type 0 where
-  pub eval : {c d : Context} {sort : Sort} {e : Expr} → ExprTyped members c d sort e → (t : ℕ) → Keeps (length members.fields) t c d (Holds sort) (m.eval e)
-  pub exec : {c d : Context} {s : Stmt} → StmtTyped members c d s → (t : ℕ) → Keeps (length members.fields) t c d Any (m.exec s)
+  pub eval : {c d : Context} {sort : Sort} {e : Expr} → ExprTyped members c d sort e → (t : ℕ) →
+      Keeps (length members.fields) t c d (Holds sort) (m.eval e)
+  pub exec : {c d : Context} {s : Stmt} → StmtTyped members c d s → (t : ℕ) →
+      Keeps (length members.fields) t c d Any (m.exec s)
 
 -- one more int
-keeps-adding : {fields u n : ℕ} {c : Context} {done : List Value} {value : Value} (go : List Value → Computation Value) → Ints n done → Holds int u value →
-    ((given : List Value) → Ints (suc n) given → Keeps fields u c c (Holds int) (go given)) → Keeps fields u c c (Holds int) (adding go done value)
+keeps-adding : {fields u n : ℕ} {c : Context} {done : List Value} {value : Value} (go : List Value → Computation Value) →
+    Ints n done → Holds int u value →
+    ((given : List Value) → Ints (suc n) given → Keeps fields u c c (Holds int) (go given)) →
+    Keeps fields u c c (Holds int) (adding go done value)
 unfolding adding
 keeps-adding go q (an_int {x = x}) p = p _ (Ints-push x q)
 
 module _ {members : Members} {m : Meanings} (g : KeepsAll members m) where
   -- arguments, from left to right, and then what is done with their values
-  pub keeps-with_values : {c : Context} {es : Exprs} {t n : ℕ} {done : List Value} (go : List Value → Computation Value) → AllTyped members c es → Ints n done →
-      ((u : ℕ) → t ≤ u → (given : List Value) → Ints (length es + n) given → Keeps (length members.fields) u c c (Holds int) (go given)) →
+  pub keeps-with_values : {c : Context} {es : Exprs} {t n : ℕ} {done : List Value} (go : List Value → Computation Value) →
+      AllTyped members c es → Ints n done →
+      ((u : ℕ) → t ≤ u → (given : List Value) → Ints (length es + n) given →
+      Keeps (length members.fields) u c c (Holds int) (go given)) →
       Keeps (length members.fields) t c c (Holds int) (with_values m es go done)
-  keeps-with_values {t = t} {n = n} {done = done} go AllTyped.none q p = p t (omega arith) done (subst (λ k. Ints k done) (let e : n ≡ 0 + n = omega arith in e) q)
+  keeps-with_values {t = t} {n = n} {done = done} go AllTyped.none q p =
+      p t (omega arith) done (subst (λ k. Ints k done) (let e : n ≡ 0 + n = omega arith in e) q)
   keeps-with_values {es = e ∷ es} {t = t} {n = n} go (AllTyped.more f fs) q p = safe-bind (g.eval f t) λ u l value r.
       keeps-adding (with_values m es go) q r λ done s. keeps-with_values go fs s λ v k given z.
       p v (omega arith) given (subst (λ k. Ints k given) (let h : length es + suc n ≡ suc (length es) + n = omega arith in h) z)
 
   pub keeps-args : {c : Context} {es : Exprs} {t : ℕ} (go : List Value → Computation Value) → AllTyped members c es →
-      ((u : ℕ) → t ≤ u → (given : List Value) → Ints (length es) given → Keeps (length members.fields) u c c (Holds int) (go given)) →
+      ((u : ℕ) → t ≤ u → (given : List Value) → Ints (length es) given →
+      Keeps (length members.fields) u c c (Holds int) (go given)) →
       Keeps (length members.fields) t c c (Holds int) (with_values m es go [])
   keeps-args {es = es} go fs p = keeps-with_values go fs (record { length_is = refl; all = All-nil IsInt }) λ u l given r.
       p u l given (subst (λ k. Ints k given) (let h : length es + 0 ≡ length es = omega arith in h) r)
 
-  pub keeps-block : {c d : Context} {ss : Stmts} → StmtsTyped members c d ss → (t : ℕ) → Keeps (length members.fields) t c d Any (block m ss)
+  pub keeps-block : {c d : Context} {ss : Stmts} → StmtsTyped members c d ss → (t : ℕ) →
+      Keeps (length members.fields) t c d Any (block m ss)
   keeps-block StmtsTyped.end t = safe-ret tt (record {})
   keeps-block (StmtsTyped.next f fs) t = safe-seq (g.exec f t) λ u l. keeps-block fs u
 
   pub keeps-method : {c : Context} {t : ℕ} {x : NameId} {is_static : Bool} {arity : ℕ} (method : Method) (this : Value) (given : List Value) →
-      MethodTyped members (record { name = x; is_static = is_static; arity = arity }) method → Ints arity given → (is_static ≡ false → Holds object t this) →
+      MethodTyped members (record { name = x; is_static = is_static; arity = arity }) method → Ints arity given →
+      (is_static ≡ false → Holds object t this) →
       Keeps (length members.fields) t c c (Holds int) (run_method m method this given)
   keeps-method {t = t} method this given f q r =
-      safe-run_method m method this given f.has_body (own-begins method this f.params given f.room (subst (λ n. Ints n given) (sym f.arity) q) r) (g.exec f.fits t)
+      safe-run_method m method this given f.has_body (own-begins method this f.params given f.room (subst (λ n. Ints n given) (sym f.arity) q) r)
+      (g.exec f.fits t)
       (λ u value h. h)
       (λ u l. rw f.returns an_int)
 
-  keeps-constructor : {c : Context} {t : ℕ} (method : Method) (this : Value) → ConstructorTyped members method → Holds object t this →
+  keeps-constructor : {c : Context} {t : ℕ} (method : Method) (this : Value) → ConstructorTyped members method →
+      Holds object t this →
       Keeps (length members.fields) t c c Any (run_method m method this [])
   keeps-constructor {t = t} method this f r =
-      safe-run_method m method this [] f.has_body (own-begins method this [] [] (omega arith) (record { length_is = refl; all = All-nil IsInt }) (λ e. r)) (g.exec f.fits t)
+      safe-run_method m method this [] f.has_body (own-begins method this [] [] (omega arith) (record { length_is = refl; all = All-nil IsInt }) (λ e. r))
+      (g.exec f.fits t)
       (λ u value h. record {})
       (λ u l. record {})
 
-keeps-no_args : {fields t : ℕ} {c : Context} {Q : ℕ → Value → Type 0} {es : Exprs} (m : Meanings) (go : List Value → Computation Value) → es ≡ [] →
+keeps-no_args : {fields t : ℕ} {c : Context} {Q : ℕ → Value → Type 0} {es : Exprs} (m : Meanings)
+    (go : List Value → Computation Value) → es ≡ [] →
     Keeps fields t c c Q (go []) → Keeps fields t c c Q (with_values m es go [])
 keeps-no_args m go e p = rw e p
 
 module _ {members : Members} {program : Program} (p : ProgramTyped members program) {m : Meanings} (g : KeepsAll members m) where
-  keeps-run_exact : {c : Context} {t : ℕ} {x : NameId} {arity : ℕ} (number : ℕ) (given : List Value) → slice_get members.methods number ≡ Some (record { name = x; is_static = true; arity = arity }) →
-      Ints arity given → Keeps (length members.fields) t c c (Holds int) (run_exact program m one_class number Null given)
+  keeps-run_exact : {c : Context} {t : ℕ} {x : NameId} {arity : ℕ} (number : ℕ) (given : List Value) →
+      slice_get members.methods number ≡ Some (record { name = x; is_static = true; arity = arity }) →
+      Ints arity given →
+      Keeps (length members.fields) t c c (Holds int) (run_exact program m one_class number Null given)
   keeps-run_exact number given e q =
       let found = p.method number _ e in
       safe-need _ found.1 (rw found.2.flag (keeps-method g found.0 Null given found.2 q λ h. absurd (cc)))
 
   keeps-run_virtual : {c : Context} {t : ℕ} {x : NameId} {arity : ℕ} {this : Value} (number : ℕ) (given : List Value) →
-      slice_get members.methods number ≡ Some (record { name = x; is_static = false; arity = arity }) → Holds object t this → Ints arity given →
+      slice_get members.methods number ≡ Some (record { name = x; is_static = false; arity = arity }) →
+      Holds object t this → Ints arity given →
       Keeps (length members.fields) t c c (Holds int) (run_virtual program m one_class number this given)
   keeps-run_virtual number given e (an_object {o = o} b) q =
       let found = p.method number _ e in
-      safe-deref program o _ (safe-bind (safe-get_class {Q = λ u own. own ≡ one_class} o one_class (λ objects r. class_at_object o.0 b r) refl) λ u l own h.
+      let class = safe-get_class {Q = λ u own. own ≡ one_class} o one_class (λ objects r. class_at_object o.0 b r) refl in
+      safe-deref program o _ (safe-bind class λ u l own h.
       rw h (safe-need _ found.1 (keeps-method g found.0 (Ref o) given found.2 q λ z. an_object (omega arith))))
 
-  keeps-run_new : {c : Context} {t : ℕ} → Keeps (length members.fields) t c c (Holds object) (run_new program m one_class (length members.methods) [])
+  keeps-run_new : {c : Context} {t : ℕ} →
+      Keeps (length members.fields) t c c (Holds object) (run_new program m one_class (length members.methods) [])
   keeps-run_new =
       let found = p.constructor in
       safe-bind (keeps-make program p.fresh p.are_ints) λ u l o h.
       safe-need _ found.1 (safe-yields (Ref o) (keeps-constructor g found.0 (Ref o) found.2 h) λ v k. Holds-later k h)
 
-  pub keeps-expr : {c d : Context} {sort : Sort} {e : Expr} → ExprTyped members c d sort e → (t : ℕ) → Keeps (length members.fields) t c d (Holds sort) (eval_form program m (out-Form e.form))
+  pub keeps-expr : {c d : Context} {sort : Sort} {e : Expr} → ExprTyped members c d sort e → (t : ℕ) →
+      Keeps (length members.fields) t c d (Holds sort) (eval_form program m (out-Form e.form))
   unfolding start_call apply constant
   keeps-expr (ExprTyped.constant {value = value} q) t = rw q (safe-ret (Int value) an_int)
   keeps-expr (ExprTyped.local {number = number} q e) t = rw q (keeps-get_local number e)
   keeps-expr (ExprTyped.this q e) t = rw q (keeps-this e)
-  keeps-expr (ExprTyped.field {number = number} q h f) t = rw q (safe-bind (g.eval f t) λ u l o r. keeps-read_field program number (p.slot number h) h r)
-  keeps-expr (ExprTyped.binary {op = op} q f f') t = rw q (safe-bind (g.eval f t) λ u l a r. safe-bind (g.eval f' u) λ v k b s. keeps-binary op (Holds-later k r) s)
-  keeps-expr (ExprTyped.call_static {number = number} q e fs) t = rw q (keeps-args g _ fs λ u l given r. keeps-run_exact number given e r)
-  keeps-expr (ExprTyped.call_on {number = number} q e f fs) t = rw q (safe-bind (g.eval f t) λ u l this h.
+  keeps-expr (ExprTyped.field {number = number} q h f) t =
+      rw q (safe-bind (g.eval f t) λ u l o r. keeps-read_field program number (p.slot number h) h r)
+  keeps-expr (ExprTyped.binary {op = op} q f f') t =
+      rw q (safe-bind (g.eval f t) λ u l a r. safe-bind (g.eval f' u) λ v k b s. keeps-binary op (Holds-later k r) s)
+  keeps-expr (ExprTyped.call_static {number = number} q e fs) t =
+      rw q (keeps-args g _ fs λ u l given r. keeps-run_exact number given e r)
+  keeps-expr (ExprTyped.call_on {number = number} q e f fs) t =
+      rw q (safe-bind (g.eval f t) λ u l this h.
       keeps-args g _ fs λ v k given r. keeps-run_virtual number given e (Holds-later k h) r)
   keeps-expr (ExprTyped.make q none) t = rw q (keeps-no_args m _ none keeps-run_new)
-  keeps-expr (ExprTyped.assign_local {number = number} q q' e f) t = rw (q, q') (safe-bind (g.eval f t) λ u l a r. keeps-put_local number e r)
-  keeps-expr (ExprTyped.assign_field {number = number} q q' h f f') t = rw (q, q') (safe-bind (g.eval f t) λ u l o r. safe-bind (g.eval f' u) λ v k a s.
+  keeps-expr (ExprTyped.assign_local {number = number} q q' e f) t =
+      rw (q, q') (safe-bind (g.eval f t) λ u l a r. keeps-put_local number e r)
+  keeps-expr (ExprTyped.assign_field {number = number} q q' h f f') t =
+      rw (q, q') (safe-bind (g.eval f t) λ u l o r. safe-bind (g.eval f' u) λ v k a s.
       keeps-write_field program number (p.slot number h) h (Holds-later k r) s)
-  keeps-expr (ExprTyped.initialize x q q' h f) t = rw (q, q') (safe-bind (g.eval f t) λ u l a r. keeps-initialize _ h r)
+  keeps-expr (ExprTyped.initialize x q q' h f) t =
+      rw (q, q') (safe-bind (g.eval f t) λ u l a r. keeps-initialize _ h r)
 
-  pub keeps-stmt : {c d : Context} {s : Stmt} → StmtTyped members c d s → (t : ℕ) → Keeps (length members.fields) t c d Any (exec_form m (out-StmtForm s.form))
+  pub keeps-stmt : {c d : Context} {s : Stmt} → StmtTyped members c d s → (t : ℕ) →
+      Keeps (length members.fields) t c d Any (exec_form m (out-StmtForm s.form))
   keeps-stmt (StmtTyped.does q f) t = rw q (safe-seq (g.eval f t) λ u l. safe-ret tt (record {}))
   keeps-stmt (StmtTyped.returns q f) t = rw q (safe-bind (g.eval f t) λ u l a r. safe-leave a r)
   keeps-stmt (StmtTyped.block q fs) t = rw q (keeps-block g fs t)
 
 -- however deep nodes nest
-pub meanings_keep : {members : Members} {program : Program} → ProgramTyped members program → (n : ℕ) → KeepsAll members (meanings program n)
+pub meanings_keep : {members : Members} {program : Program} → ProgramTyped members program → (n : ℕ) →
+    KeepsAll members (meanings program n)
 unfolding meanings
 meanings_keep p zero = record { eval = λ f t. safe-spent; exec = λ f t. safe-spent }
 meanings_keep p (suc n) = record {
@@ -124,7 +153,8 @@ meanings_keep p (suc n) = record {
 }
 
 -- evaluation keeps what holds
-pub java_keeps : {members : Members} {program : Program} → ProgramTyped members program → KeepsAll members (java program)
+pub java_keeps : {members : Members} {program : Program} → ProgramTyped members program →
+    KeepsAll members (java program)
 unfolding java
 java_keeps p = record {
   eval = λ f t. record { run = λ go exits on out s fits. ((meanings_keep p s.public.units).eval f t).run go exits on out s fits };
