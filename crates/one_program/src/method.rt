@@ -49,12 +49,7 @@ pub fn make_method(
 }
 
 /// The method of that head and body.
-fn method_of(
-    alloc: Global,
-    head: Head,
-    params: &[NameId],
-    body: MadeBody,
-) -> Result<Method, Memory>
+fn method_of(alloc: Global, head: Head, params: &[NameId], body: MadeBody) -> Result<Method, Memory>
     requires { length body.locals.items < 2 ^ 31 }
     ensures { IfOk result (IsMethodOfBody head params.now body.locals.items body.parts.items) }
 {

@@ -88,10 +88,10 @@ impl<'a> Model for Scope<'a> {
     ghost Value = { ScopeOf };
 
     ghost view = { λ s. record {
-        members = s.members.now;
-        is_static = s.is_static;
-        locals = s.locals.now;
-        barred = barred_in s.initialized s.objects.now;
+      members = s.members.now;
+      is_static = s.is_static;
+      locals = s.locals.now;
+      barred = barred_in s.initialized s.objects.now;
     } };
 
     ghost invariant = { λ s. (length s.locals.now < 2 ^ 31) × (length s.objects.now < 2 ^ 31) };
@@ -113,10 +113,10 @@ impl<'a> Model for BodyScope<'a> {
     ghost Value = { ScopeOf };
 
     ghost view = { λ s. record {
-        members = s.members.now;
-        is_static = s.is_static;
-        locals = s.locals.now;
-        barred = s.objects.now;
+      members = s.members.now;
+      is_static = s.is_static;
+      locals = s.locals.now;
+      barred = s.objects.now;
     } };
 
     ghost invariant = { λ s. (length s.locals.now < 2 ^ 31) × (length s.objects.now < 2 ^ 31) };

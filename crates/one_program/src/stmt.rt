@@ -130,12 +130,7 @@ fn perform(
     Ok(Some(nodes::perform(alloc, call)?))
 }
 
-fn stored(
-    alloc: Global,
-    place: je_core::Expr,
-    value: je_core::Expr,
-    ty: Ty,
-) -> Result<Stmt, Memory>
+fn stored(alloc: Global, place: je_core::Expr, value: je_core::Expr, ty: Ty) -> Result<Stmt, Memory>
     ensures { IfOk result (IsStored place value ty) }
 {
     let assigned = nodes::assign(alloc, place, value, ty)?;

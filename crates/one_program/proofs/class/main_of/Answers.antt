@@ -20,7 +20,7 @@ returns-clause-fits c =
     let class = ap (λ (x : NameId). is_word java_lang names x) (sym (ap (λ m. m.class) seen)) ∙ sym c.is_java_lang.ensures ∙ c.if-is_java_lang.false in
     let fields = subst AreDistinct (map-id c.deref.result.now ∙ c.deref.ensures.value ∙ ap (λ m. m.fields) seen) (c.are_distinct.ensures.0 c.if-not-are_distinct.false) in
     let methods = subst (λ (hs : List Head). AreDistinct (head_names hs)) (c.deref-else-not-are_distinct.ensures.value ∙ ap (λ m. m.methods) seen)
-        (c.are_distinct-else-not-are_distinct.ensures.0 c.if-not-are_distinct-2.false) in
+    (c.are_distinct-else-not-are_distinct.ensures.0 c.if-not-are_distinct-2.false) in
     main-found names members c.deref-2.result.now c.in_ok-name.name c.static_without_parameters.result class fields methods (number-text names _ c.in_ok-name.name (sym c.in_ok-name.ensures.number))
     (c.deref-2.ensures.value ∙ ap (λ m. m.methods) seen) c.static_without_parameters.ensures.found
 
