@@ -5,5 +5,4 @@ pub mod InMemory
 pub mod Status
 pub mod Words
 pub mod Texts
-pub mod One
 pub mod Outcome

@@ -3,12 +3,12 @@ use Rattle.std.specs.Prelude.{◌≡◌, ℕ, ℤ, ◌≤◌, List, String, map,
 use Rattle.std.specs.declared.option.Option.{Option}
 use Rattle.std.specs.declared.alloc.Global.{Global}
 use Rattle.je_top.specs.declared.TheConstants.{FILE_LIMIT}
-use Rattle.je_top.specs.declared.one.Answer.TheVariants.{Reply, Spent}
+use Rattle.one_run.specs.declared.answer.Answer.TheVariants.{Reply, Spent}
 use Rattle.je_top.specs.declared.status.Status.{Status}
 use Rattle.je_top.specs.declared.status.Status.TheVariants as status
 use Rattle.je_top.specs.Files.{Held, IsWhole, IsMissing, IsTooLong}
 use Rattle.je_top.specs.Sink.{grown, GrewByFront}
-use Rattle.je_top.specs.One.{IsOne, Answers}
+use Rattle.one_run.specs.One.{IsOne, Answers}
 use Rattle.je_top.specs.Texts.{usage_text, missing_text, too_long_text, read_text, not_built_text, reply_text, spent_text}
 use Rattle.je_top.specs.Words.{file_to_run}
 

@@ -13,7 +13,8 @@
 
 mod files;
 mod in_memory;
-mod one;
+#[cfg(test)]
+mod one_tests;
 mod outcome;
 mod real;
 mod sink;

@@ -1,15 +1,16 @@
 // What a call owes: a status, and the text that is put for it.
 
-ghost use Rattle.std.specs.Prelude.{◌≡◌, ◌≤◌, IfOk, IfSome};
+ghost use Rattle.std.specs.Prelude.{◌≡◌, ◌≤◌, length, IfOk, IfSome};
 ghost use Rattle.je_top.specs.Counts.{Rose, Grew};
 ghost use Rattle.je_top.specs.Outcome.{asked_file, IsOwed, IsOwedForName, IsOwedForBytes};
 
+use crate::FILE_LIMIT;
 use crate::files::{FileFault, Files};
-use crate::one::{Answer, answer_of};
 use crate::status::Status;
 use crate::texts::{name_line, reply_line};
 use crate::words::file_to_run;
 use je_core::Memory;
+use one_run::{Answer, answer_of};
 use std::alloc::Global;
 
 /// A status, and the text that is put for it.
@@ -80,6 +81,7 @@ fn outcome_for_name<F: Files>(alloc: Global, name: &str, files: &mut F) -> Resul
 
 /// What is owed for the bytes of a file.
 fn outcome_for_bytes(alloc: Global, name: &str, bytes: &[u8]) -> Result<Outcome, Memory>
+    requires { length bytes.now ≤ FILE_LIMIT }
     ensures { IfOk result (λ o. IsOwedForBytes name.now bytes.now o.status o.text.items) }
 {
     match answer_of(alloc, bytes)? {

@@ -1,12 +1,13 @@
 -- A tree's lists are no longer than the text that it is read from.
-use Rattle.std.proofs.Common.{◌≡◌, ℕ, suc, ◌+◌, ◌<◌, ◌≤◌, List, [], ◌∷◌, ◌++◌, length, Bool, Option, arith, ap, length-append, true}
+use Rattle.std.proofs.Common.{◌≡◌, ℕ, suc, ◌+◌, ◌<◌, ◌≤◌, List, [], ◌∷◌, ◌++◌, length, Bool, Option, Some, None, arith, ap, length-append, true, refl}
 use Rattle.je_core.specs.declared.span.NameId.{NameId}
+use Rattle.je_core.specs.Names.{interned_by, place_of}
 use Rattle.one_tokens.specs.declared.token.Token.{Token}
 use Rattle.one_tokens.specs.Characters.{begins, is_start, is_digit}
 use Rattle.one_tokens.specs.Lexing.{Lexes, at_end, at_control_z, past_white, keyword, identifier, decimal, sign, is_decimal}
 use Rattle.one_syntax.specs.Trees.{ExprTree, ExprTrees, StatementTree, MemberTree, field, method, OneTree}
 use Rattle.one_syntax.specs.Grammar as g
-use Rattle.one_run.specs.Sizes.{MemberWithin, MembersWithin, IsWithin}
+use Rattle.one_program.specs.Sizes.{declarations_in, declarations}
 
 mutual
   sum-less : {e : ExprTree} {ts rest : List Token} → g.SpellsSum e ts rest → length rest < length ts
@@ -51,31 +52,21 @@ params-less g.no_params = omega arith
 params-less g.last_param = omega arith
 params-less (g.one_param p) = let h = params-less p in omega arith
 
-method-within : {s : Bool} {m : MemberTree} {ts rest : List Token} → g.SpellsMethod s m ts rest → MemberWithin (length ts) m × (length rest < length ts)
-method-within (g.is_method p b) = let h = params-less p in let k = body-less b in (omega arith, omega arith)
+method-less : {s : Bool} {m : MemberTree} {ts rest : List Token} → g.SpellsMethod s m ts rest → declarations_in m + length rest < length ts
+method-less (g.is_method p b) = let h = params-less p in let k = body-less b in omega arith
 
-within-more : {n k : ℕ} (m : MemberTree) → n ≤ k → MemberWithin n m → MemberWithin k m
-within-more (field x) l h = tt
-within-more (method s x params body result) l h = omega arith
+member-less : {m : MemberTree} {ts rest : List Token} → g.SpellsMember m ts rest → declarations_in m + length rest < length ts
+member-less g.is_field = omega arith
+member-less (g.is_static s) = let h = method-less s in omega arith
+member-less (g.is_instance s) = method-less s
 
-member-within : {m : MemberTree} {ts rest : List Token} → g.SpellsMember m ts rest → MemberWithin (length ts) m × (length rest < length ts)
-member-within g.is_field = (tt, omega arith)
-member-within (g.is_static {m = m} s) = let h = method-within s in (within-more m (omega arith) h.0, omega (arith, h.1))
-member-within (g.is_instance s) = method-within s
+members-less : {ms : List MemberTree} {ts rest : List Token} → g.SpellsMembers ms ts rest → declarations ms + length rest < length ts
+members-less g.no_members = omega arith
+members-less (g.one_member a b) = let h = member-less a in let k = members-less b in omega arith
 
-members-more : {n k : ℕ} (ms : List MemberTree) → n ≤ k → MembersWithin n ms → MembersWithin k ms
-members-more [] l h = tt
-members-more (m ∷ ms) l h = (within-more m l h.0, members-more ms l h.1)
-
-members-within : {ms : List MemberTree} {ts rest : List Token} → g.SpellsMembers ms ts rest → MembersWithin (length ts) ms × (length ms + length rest < length ts)
-members-within g.no_members = (tt, omega arith)
-members-within (g.one_member {m = m} {ms = ms} a b) =
-    let h = member-within a in
-    let k = members-within b in
-    ((h.0, members-more ms (omega (arith, h.1)) k.0), omega (arith, h.1, k.1))
-
-pub spelled-within : {one : OneTree} {ts : List Token} → g.Spells one ts → IsWithin (length ts) one
-spelled-within (g.is_one {ms = ms} s) = let h = members-within s in record { count = omega (arith, h.1); each = members-more ms (omega arith) h.0 }
+-- a One declares no more than it has tokens
+pub spelled-within : {one : OneTree} {ts : List Token} → g.Spells one ts → declarations one.members ≤ length ts
+spelled-within (g.is_one s) = let h = members-less s in omega arith
 
 word-long : (word behind text : List ℕ) (p : ℕ → Bool) → text ≡ word ++ behind → begins p word ≡ true → length behind < length text
 word-long [] behind text p e h = absurd (cc)
@@ -83,7 +74,7 @@ word-long (c ∷ word) behind text p e h = omega (arith, ap length e, length-app
 
 decimal-begins : (digits : List ℕ) → is_decimal digits ≡ true → begins (λ c. true) digits ≡ true
 decimal-begins [] h = h
-decimal-begins (c ∷ cs) h = Rattle.std.proofs.Common.refl
+decimal-begins (c ∷ cs) h = refl
 
 -- a text has no more tokens than characters
 pub tokens-within : {names after : List (List ℕ)} {text : List ℕ} {ts : List Token} → Lexes names text ts after → length ts ≤ length text
@@ -94,3 +85,21 @@ tokens-within (keyword {text = text} {word = word} {behind = behind} w k h) = le
 tokens-within (identifier {text = text} {word = word} {behind = behind} w k h) = let l = tokens-within h in let m = word-long word behind text is_start w.parts w.first in omega arith
 tokens-within (decimal {text = text} {digits = digits} {behind = behind} w k h) = let l = tokens-within h in let m = word-long digits behind text (λ c. true) w.parts (decimal-begins digits w.decimal) in omega arith
 tokens-within (sign s j h) = let l = tokens-within h in omega arith
+
+-- nor more names
+interned-longer : (o : Option ℕ) (names : List (List ℕ)) (text : List ℕ) → length (interned_by o names text) ≤ length names + 1
+interned-longer None names text = omega (arith, length-append names (text ∷ []))
+interned-longer (Some n) names text = omega arith
+
+pub names-within : {names after : List (List ℕ)} {text : List ℕ} {ts : List Token} → Lexes names text ts after → length after ≤ length names + length text
+names-within at_end = omega arith
+names-within at_control_z = omega arith
+names-within (past_white w h) = let l = names-within h in omega arith
+names-within (keyword {text = text} {word = word} {behind = behind} w k h) = let l = names-within h in let m = word-long word behind text is_start w.parts w.first in omega arith
+names-within (identifier {names = names} {text = text} {word = word} {behind = behind} w k h) =
+    let l = names-within h in
+    let m = word-long word behind text is_start w.parts w.first in
+    let i = interned-longer (place_of names word) names word in
+    omega arith
+names-within (decimal {text = text} {digits = digits} {behind = behind} w k h) = let l = names-within h in let m = word-long digits behind text (λ c. true) w.parts (decimal-begins digits w.decimal) in omega arith
+names-within (sign s j h) = let l = names-within h in omega arith

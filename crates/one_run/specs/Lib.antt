@@ -1,3 +1,2 @@
 pub mod One
-pub mod Sizes
 pub mod Ends

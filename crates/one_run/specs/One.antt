@@ -32,10 +32,8 @@ pub record IsOneOf (bytes : List ℕ) (names : List (List ℕ)) (one : OneTree) 
   pub fits : Fits names one
 
 -- the file is a One
-pub record IsOne (bytes : List ℕ) : Type 0 where
-  pub names : List (List ℕ)
-  pub one : OneTree
-  pub is : IsOneOf bytes names one
+unfoldable pub IsOne : List ℕ → Type 0
+IsOne bytes = (names : List (List ℕ)) × ((one : OneTree) × IsOneOf bytes names one)
 
 -- the file is a One, and the call of its `main`, from a world without objects and with the units of a run, ends so;
 -- `all_names` has the names that its core program needs beside its own
@@ -57,7 +55,7 @@ IsAnswerTo outcome Spent = (state : State) × (outcome ≡ SpentWith state)
 IsAnswerTo outcome NotBuilt = ⊥
 
 -- what the file comes to
-abbrev pub Answers : List ℕ → Answer → Type 0
+unfoldable pub Answers : List ℕ → Answer → Type 0
 Answers bytes (Reply value) = (state : State) × Runs bytes (Done (Int value) state)
 Answers bytes Spent = (state : State) × Runs bytes (SpentWith state)
 Answers bytes NotBuilt = ¬ IsOne bytes

@@ -2,6 +2,8 @@
 #![tactic(auto)]
 
 mod answer;
+mod file;
 mod run;
 
 pub use answer::Answer;
+pub use file::{answer_of, one_tree};

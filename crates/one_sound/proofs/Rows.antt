@@ -373,4 +373,4 @@ module _ (ptr : Ptr) (global : Global) where
   goes_wrong = refl
 
   unfits : Fits names unfit → ⊥
-  unfits fits = main_not_wrong names unfit unfit_program 1 1000000 fits unfit_elaborates (record { name = id 4; text = refl; head = refl }) goes_wrong
+  unfits fits = main_not_wrong names names unfit unfit_program 1 1000000 fits unfit_elaborates (record { name = id 4; text = refl; head = refl }) goes_wrong

@@ -1,0 +1,5 @@
+use Rattle.one_run.proofs.Answering.{one-file}
+use Rattle.one_run.proofs.file.one_tree.Goals as goal
+
+pub returns : goal.returns
+returns c = one-file
