@@ -1,13 +1,13 @@
 -- A body's nodes so far, and those still to come.
-use Rattle.std.proofs.Common.{refl, ◌≡◌, ◌∙◌, ℕ, ◌+◌, List, [], ◌∷◌, ◌++◌, drop, map, Option, Some, None, sym, ap, subst}
-use Rattle.std.proofs.lemmas.List.{append_assoc, append-nil}
+use Rattle.std.proofs.Common.{refl, ◌≡◌, List, [], ◌∷◌, ◌++◌, sym, subst}
+use Rattle.std.proofs.lemmas.List.{append_assoc}
 use Rattle.std.specs.declared.rc.Rc.{Rc}
 use Rattle.std.specs.declared.alloc.Global.{Global}
 use Rattle.je_core.specs.declared.stmt.Stmt.{Stmt}
 use Rattle.je_core.specs.declared.expr.Expr.{Expr}
 use Rattle.one_syntax.specs.Trees.{StatementTree, ExprTree}
 use Rattle.one_program.specs.Scope.{Scope, after}
-use Rattle.one_program.specs.Conditions.{ExprFits, StatementFits, BodyFits}
+use Rattle.one_program.specs.Conditions.{StatementFits, BodyFits}
 use Rattle.one_program.specs.Elaboration.{IsExpr, IsStatement, IsBody, is_return, is_next, locals_of}
 use Rattle.one_program.specs.Nodes.{IsReturn}
 

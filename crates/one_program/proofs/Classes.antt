@@ -1,5 +1,5 @@
 -- The members of a class, so far and still to come.
-use Rattle.std.proofs.Common.{◌≡◌, ◌∙◌, ℕ, suc, ◌+◌, ◌≤◌, List, [], ◌∷◌, ◌++◌, drop, map, length, refl, sym, ap, subst, arith, Option, Some, None, true, false}
+use Rattle.std.proofs.Common.{◌≡◌, ◌∙◌, ℕ, ◌+◌, ◌≤◌, List, [], ◌∷◌, ◌++◌, drop, length, sym, ap, subst, arith, Option, Some, None, true, false}
 use Rattle.std.specs.Prelude.{IfSome, IfNone, slice_get, codes}
 use Rattle.je_core.specs.Names.{text_of, EachOnce}
 use Rattle.one_program.specs.Names.{AreDistinct}
@@ -11,7 +11,7 @@ use Rattle.one_syntax.specs.Trees.{MemberTree, field, method}
 use Rattle.one_program.specs.Scope.{Members, Head, head_names}
 use Rattle.one_program.specs.Conditions.{MemberFits, MembersFit, is_word, java_lang}
 use Rattle.one_program.specs.Elaboration.{AreFields, no_fields, more_fields, IsField, AreMethods, no_methods}
-use Rattle.one_program.specs.Sizes.{declarations, declarations_in}
+use Rattle.one_program.specs.Sizes.{declarations}
 use Rattle.one_program.specs.Built.{AddsMethod, HeadsFit}
 
 pub record MethodsSoFar (names : List (List ℕ)) (members : Members) (all rest : List MemberTree) (made : List Method) : Type 0 where

@@ -1,5 +1,5 @@
 -- What the code makes of an expression is its node.
-use Rattle.std.proofs.Common.{Box, IfOk, IfSome, Result, Ok, Err, ◌≡◌, ◌∙◌, ℕ, ℤ, suc, ◌+◌, List, [], ◌∷◌, ◌++◌, length, drop, Option, Some, None, refl, sym, ap, subst, arith, ◌↔◌}
+use Rattle.std.proofs.Common.{Box, IfOk, IfSome, Result, Ok, Err, ◌≡◌, ◌∙◌, ℕ, ℤ, ◌+◌, List, [], ◌∷◌, ◌++◌, length, drop, Option, Some, None, refl, sym, ap, subst, arith}
 use Rattle.std.proofs.lemmas.List.{append_assoc, append-nil}
 use Rattle.std.specs.declared.rc.Rc.{Rc}
 use Rattle.std.specs.declared.vec.Vec.{Vec}
@@ -7,7 +7,6 @@ use Rattle.std.specs.declared.alloc.Global.{Global}
 use Rattle.je_core.specs.declared.expr.BinOp.{BinOp}
 use Rattle.je_core.specs.declared.expr.Expr.{Expr}
 use Rattle.je_core.specs.declared.span.NameId.{NameId}
-use Rattle.je_java.specs.Steps.{operate}
 use Rattle.one_syntax.specs.declared.tree.Expr.{Expr as Tree, Call, Brackets, Binary}
 use Rattle.one_syntax.proofs.Views.{view_expr-Call}
 use Rattle.je_core.specs.declared.memory.Memory.{Memory}
@@ -22,7 +21,6 @@ use Rattle.one_program.specs.Constants.{constant_of, folded}
 use Rattle.one_program.specs.Scope.{Scope}
 use Rattle.one_program.specs.Conditions.{count, ExprFits, ArgsFit}
 use Rattle.one_program.specs.Elaboration.{IsExpr, is_constant, is_local, is_field, is_brackets, is_binary, is_call, IsCall, calls_static, calls_own, calls_on, AreExprs, no_exprs, more_exprs, IsThis, IsLocal, class_type}
-use Rattle.one_program.specs.Nodes.{IsBinary}
 use Rattle.one_program.specs.Seen.{IsPlace, IsCallee}
 use Rattle.one_program.specs.Elaborated.{IsElaborated, IsNodeOf, IsOperation, IsJoined, IsPlaceNode, IsCallNode}
 

@@ -1,5 +1,5 @@
 -- The parts of a method, so far and still to come.
-use Rattle.std.proofs.Common.{◌≡◌, ◌∙◌, ℕ, suc, ◌+◌, ◌-◌, ◌<◌, List, [], ◌∷◌, ◌++◌, drop, map, length, refl, sym, ap, subst, arith, Bool}
+use Rattle.std.proofs.Common.{◌≡◌, ℕ, suc, ◌+◌, ◌-◌, ◌<◌, List, [], ◌∷◌, ◌++◌, drop, length, refl, sym, ap, subst, arith}
 use Rattle.std.proofs.lemmas.List.{append_assoc, append-nil}
 use Rattle.je_core.specs.declared.program.Local.{Local}
 use Rattle.je_core.specs.declared.program.Method.{Method}
@@ -7,7 +7,7 @@ use Rattle.je_core.specs.declared.span.NameId.{NameId}
 use Rattle.one_syntax.specs.Trees.{StatementTree, ExprTree}
 use Rattle.one_program.specs.declared.body.MadeBody.{MadeBody}
 use Rattle.one_program.specs.Scope.{Head, Variable, Members, scope_of}
-use Rattle.one_program.specs.Elaboration.{AreLocals, no_locals, more_locals, Declares, numbers_from, IsMethod, IsBlock, locals_of}
+use Rattle.one_program.specs.Elaboration.{AreLocals, no_locals, more_locals, Declares, numbers_from, IsMethod, IsBlock}
 use Rattle.one_program.specs.Bodies.{IsMadeBody, IsMethodOfBody}
 
 -- one declaration more

@@ -1,5 +1,5 @@
 -- Places of names, found by a walk.
-use Rattle.std.proofs.Common.{slice_get, ◌≡◌, ◌∙◌, ℕ, suc, ◌+◌, List, [], ◌∷◌, length, drop, Option, Some, None, Bool, true, false, refl, sym, ap, arith, map, if◌then◌else◌}
+use Rattle.std.proofs.Common.{slice_get, ◌≡◌, ◌∙◌, ℕ, suc, ◌+◌, List, [], ◌∷◌, Option, Some, None, Bool, true, false, refl, sym, ap, arith, map, if◌then◌else◌}
 use Rattle.std.specs.Prelude.{option_map}
 use Rattle.je_core.specs.declared.span.NameId.{NameId}
 use Rattle.std.proofs.lemmas.Bool.{eqb-true}

@@ -1,14 +1,13 @@
 -- Scopes on the way through a method's body, and what the code makes of the body.
-use Rattle.std.specs.Prelude.{◌≡◌, ℕ, ◌-◌, Bool, List, map, length, Some}
+use Rattle.std.specs.Prelude.{◌≡◌, ◌-◌, Bool, List, map, length, Some}
 use Rattle.std.specs.declared.rc.Rc.{Rc}
 use Rattle.std.specs.declared.alloc.Global.{Global}
 use Rattle.je_core.specs.declared.program.Method.{Method}
 use Rattle.je_core.specs.declared.span.NameId.{NameId}
 use Rattle.je_core.specs.declared.stmt.Stmt.{Stmt}
-use Rattle.one_syntax.specs.declared.tree.Statement.{Statement}
-use Rattle.one_syntax.specs.Trees.{view_statement, StatementTree, ExprTree}
+use Rattle.one_syntax.specs.Trees.{StatementTree, ExprTree}
 use Rattle.one_program.specs.declared.body.MadeBody.{MadeBody}
-use Rattle.one_program.specs.Scope.{Head, Scope, Members, Variable, int, scope_of}
+use Rattle.one_program.specs.Scope.{Head, Scope, Members, Variable, int}
 use Rattle.one_program.specs.Elaboration.{IsBody, locals_of, IsBlock, AreLocals, int_type, numbers_from}
 
 -- the scope where these locals have been declared

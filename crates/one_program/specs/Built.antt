@@ -1,7 +1,5 @@
 -- What the code makes of a class.
-use Rattle.std.specs.Prelude.{◌≡◌, ℕ, true, false, List, [], ◌∷◌, ◌++◌, codes, Some, None}
-use Rattle.std.specs.declared.rc.Rc.{Rc}
-use Rattle.std.specs.declared.alloc.Global.{Global}
+use Rattle.std.specs.Prelude.{◌≡◌, ℕ, false, List, [], ◌∷◌, ◌++◌, None}
 use Rattle.je_core.specs.declared.program.Class.{Class}
 use Rattle.je_core.specs.declared.program.Field.{Field}
 use Rattle.je_core.specs.declared.program.Method.{Method}

@@ -1,12 +1,12 @@
 -- The conditions of a One beside its grammar: which names may stand where (JLS 6, 8.2 to 8.4, 14.4, 15.12), and which decimals are ints (JLS 3.10.1).
-use Rattle.std.specs.Prelude.{◌≡◌, ℕ, ◌+◌, ◌≤◌, Bool, true, false, List, [], ◌∷◌, map, codes, Option, Some, None, IsSome, unwrap_or, slice_get, ◌⊎◌}
+use Rattle.std.specs.Prelude.{◌≡◌, ℕ, ◌+◌, ◌≤◌, Bool, true, false, List, [], ◌∷◌, codes, Option, Some, None, IsSome, unwrap_or, slice_get, ◌⊎◌}
 use Rattle.std.specs.List.{list_any}
 use Rattle.std.specs.Str.{bytes_eq}
 use Rattle.je_core.specs.declared.span.NameId.{NameId}
 use Rattle.je_core.specs.Names.{text_of}
 use Rattle.one_syntax.specs.Trees.{ExprTree, decimal, name, call, brackets, binary, ExprTrees, none, more, StatementTree, declare, make, assign, perform, MemberTree, field, method, OneTree}
 pub use Rattle.one_program.specs.Names.{IsNot, AreDistinct}
-use Rattle.one_program.specs.Scope.{Scope, Head, Members, object, place_of, local_of, field_of, method_of, members_of, fields_of, scope_of, after, inside, names_of, head_names}
+use Rattle.one_program.specs.Scope.{Scope, Members, object, local_of, field_of, method_of, members_of, fields_of, scope_of, after, inside, names_of, head_names}
 
 -- a simple name that stands for an int: a local that holds one, or in an instance method a field
 pub record IsIntName (scope : Scope) (x : NameId) : Type 0 where

@@ -1,5 +1,5 @@
 -- Constant expressions of a One (JLS 15.28): literals, and operators on them. No name stands for a constant, since no variable is final.
-use Rattle.std.specs.Prelude.{ℕ, ℤ, pos, Option, Some, None}
+use Rattle.std.specs.Prelude.{ℤ, pos, Option, Some, None}
 use Rattle.je_core.specs.declared.expr.BinOp.{BinOp}
 use Rattle.je_java.specs.Steps.{operate}
 use Rattle.one_syntax.specs.Trees.{ExprTree, decimal, name, call, brackets, binary}

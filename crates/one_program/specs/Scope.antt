@@ -1,12 +1,12 @@
 -- What a name means at a place of a One (JLS 6.3, 6.4.1, 6.5): the class's members, and the locals declared so far.
-use Rattle.std.specs.Prelude.{◌≡◌, ℕ, suc, Bool, true, false, nat_eq, List, [], ◌∷◌, ◌++◌, length, map, Option, Some, None, option_map, if◌then◌else◌}
+use Rattle.std.specs.Prelude.{ℕ, Bool, List, [], ◌∷◌, ◌++◌, length, map, Option}
 use Rattle.je_core.specs.declared.span.NameId.{NameId}
 pub use Rattle.one_program.specs.declared.scope.Head.{Head}
 pub use Rattle.one_program.specs.declared.scope.Sort.{Sort}
 pub use Rattle.one_program.specs.declared.scope.Sort.TheVariants.{Int as int, Object as object}
 pub use Rattle.one_program.specs.declared.scope.Variable.{Variable}
 pub use Rattle.one_program.specs.Names.{same_name, place_of}
-use Rattle.one_syntax.specs.Trees.{ExprTrees, none, more, StatementTree, declare, make, assign, perform, MemberTree, field, method, OneTree}
+use Rattle.one_syntax.specs.Trees.{StatementTree, declare, make, assign, perform, MemberTree, field, method, OneTree}
 
 -- the class's name, the names of its fields, and the heads of its methods, each in order
 pub record Members : Type 0 where

@@ -5,7 +5,7 @@ use Rattle.one_program.specs.declared.scope.Place.{Place}
 use Rattle.one_program.specs.declared.scope.Place.TheVariants as place
 use Rattle.one_program.specs.declared.scope.Callee.{Callee}
 use Rattle.one_program.specs.declared.scope.Callee.TheVariants as callee
-use Rattle.one_program.specs.Scope.{Scope, Variable, object, local_of, field_of}
+use Rattle.one_program.specs.Scope.{Scope, object, local_of, field_of}
 use Rattle.one_program.specs.Conditions.{IsMethodOf}
 
 -- the barred names where a local is initialized

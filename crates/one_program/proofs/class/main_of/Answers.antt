@@ -1,4 +1,4 @@
-use Rattle.std.proofs.Common.{◌≡◌, ◌∙◌, ℕ, List, false, sym, ap, subst}
+use Rattle.std.proofs.Common.{◌∙◌, List, sym, ap, subst}
 use Rattle.std.proofs.lemmas.List.{map-id}
 use Rattle.one_program.specs.Names.{AreDistinct}
 use Rattle.one_program.specs.Scope.{Head, head_names}

@@ -7,7 +7,7 @@ use Rattle.one_program.specs.declared.expr.Elaborated.TheVariants.{Node}
 use Rattle.one_program.specs.Conditions.{NamesMethod, ExprFits}
 use Rattle.one_program.specs.Elaboration.{IsExpr}
 use Rattle.one_program.specs.Elaborated.{IsElaborated}
-use Rattle.one_program.proofs.Exprs.{ArgsSoFar, brackets-result, view-call, view-brackets, view-binary, elaborated-node, elaborated-brackets, elaborated-call, joined-node, call-node, count-view, args-more, args-all}
+use Rattle.one_program.proofs.Exprs.{ArgsSoFar, brackets-result, view-call, view-brackets, view-binary, elaborated-node, elaborated-call, joined-node, call-node, count-view, args-more, args-all}
 use Rattle.one_program.proofs.expr.+expr.Goals as goal
 
 pub called-returns-in_default-clause-none : goal.called-returns-in_default-clause-none

@@ -1,4 +1,4 @@
-use Rattle.std.proofs.Common.{◌≡◌, ◌∙◌, ◌+◌, ◌-◌, ◌∷◌, [], ◌++◌, List, ℕ, sym, ap}
+use Rattle.std.proofs.Common.{◌∙◌, ◌+◌, ◌-◌, ◌∷◌, [], ◌++◌, List, ℕ, sym, ap}
 use Rattle.std.proofs.lemmas.List.{append_assoc}
 use Rattle.one_program.specs.Elaboration.{numbers_from}
 use Rattle.one_program.proofs.Methods.{numbers-more}

@@ -1,4 +1,4 @@
-use Rattle.std.proofs.Common.{rules, ap, ◌∙◌, refl}
+use Rattle.std.proofs.Common.{ap, ◌∙◌, refl}
 use Rattle.je_core.specs.declared.stmt.StmtForm.{out-StmtForm}
 use Rattle.je_core.specs.declared.stmt.StmtForm.TheViews.{outs-Block}
 use Rattle.one_program.proofs.nodes.block.Goals as goal

@@ -1,9 +1,9 @@
-use Rattle.std.proofs.Common.{◌≡◌, ◌∙◌, ℕ, List, map, sym, ap, subst}
+use Rattle.std.proofs.Common.{◌≡◌, ◌∙◌, List, map, sym, ap, subst}
 use Rattle.je_core.specs.declared.program.Field.{Field}
 use Rattle.je_core.specs.declared.span.NameId.{NameId}
 use Rattle.one_syntax.specs.declared.tree.Member.{Member}
 use Rattle.one_syntax.specs.Trees.{view_member, view_one}
-use Rattle.one_program.specs.Scope.{Members, members_of, fields_of}
+use Rattle.one_program.specs.Scope.{Members, fields_of}
 use Rattle.one_program.specs.Elaboration.{AreFields, AreMethods}
 use Rattle.one_program.specs.Built.{HeadsFit}
 use Rattle.one_program.proofs.program.build.Goals as goal
