@@ -4,3 +4,4 @@ pub mod Statements
 pub mod Bodies
 pub mod Methods
 pub mod Classes
+pub mod Tokens

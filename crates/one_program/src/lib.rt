@@ -14,7 +14,9 @@ mod names;
 mod nodes;
 mod program;
 mod scope;
+mod sizes;
 mod stmt;
 mod words;
 
 pub use program::{Built, build};
+pub use sizes::as_few_as_tokens;
