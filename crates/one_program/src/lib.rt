@@ -16,6 +16,8 @@ mod program;
 mod scope;
 mod sizes;
 mod stmt;
+#[cfg(test)]
+mod tests;
 mod words;
 
 pub use program::{Built, build};
