@@ -157,8 +157,9 @@ abbrev pub member_views_of : List MemberNode.Member → Members
 member_views_of [] = tree.no_members
 member_views_of (m ∷ ms) = tree.more_members (member_view m) (member_views_of ms)
 
-abbrev pub block_view : Block → Statements
-block_view b = statement_views_of b.stmts.items
+abbrev pub block_view_of_option : Option Block → MaybeBlock
+block_view_of_option None = tree.no_block
+block_view_of_option (Some b) = tree.a_block b.opening (statement_views_of b.stmts.items) b.closing
 
 abbrev pub unit_view : Unit → CompilationUnit
 unit_view u = record { imports = map name_of u.imports.items; declarations = map declaration_view u.decls.items }

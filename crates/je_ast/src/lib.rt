@@ -8,6 +8,7 @@
 mod decl;
 mod expr;
 mod heights;
+mod making;
 mod name;
 mod operator;
 mod stmt;
@@ -16,6 +17,12 @@ mod ty_name;
 pub use decl::{ConstructorCall, Decl, Formal, Member, Modifier, ModifierKind, TypeParam, Unit};
 pub use expr::{Expr, Literal};
 pub use heights::height;
+pub use making::{
+    make_array_init, make_block, make_call, make_call_on, make_class, make_class_type,
+    make_constructor, make_explicit_call, make_field, make_for, make_initializer, make_interface,
+    make_local, make_locals, make_method, make_new, make_new_anonymous, make_new_array,
+    make_return, make_steps, make_super_call, make_switch, make_try, make_try_finally,
+};
 pub use name::{Identifier, Name};
 pub use operator::{BinaryOp, PostfixOp, PrefixOp};
 pub use stmt::{Block, Catch, ForInit, Group, Label, Stmt, Var};
