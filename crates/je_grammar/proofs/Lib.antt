@@ -1,3 +1,7 @@
 pub mod Sizes
 pub mod AtLeastOne
 pub mod Refusals
+pub mod Through
+pub mod EndsOf
+pub mod BeginsOf
+pub mod Extents

@@ -8,6 +8,7 @@ use Rattle.je_ast.specs.Trees.{Expression, Expressions, Statement, Member, Decla
 use Rattle.je_ast.specs.Trees as tree
 use Rattle.je_ast.specs.Size.{unit_size}
 use Rattle.je_grammar.specs.Tokens.{IsIdentifier}
+use Rattle.je_grammar.specs.Extent.{Begins, Ends}
 use Rattle.je_grammar.specs.Grammar.{Spells, SpellsStatement, SpellsUnit}
 
 -- the relation of trees spells at least one token
@@ -32,3 +33,12 @@ ElseOfNearestIf = (names : List (List ℕ)) (f g r s : Span) (c d : Expression) 
 abbrev pub CreationNotIndexed : Type 0
 CreationNotIndexed = (names : List (List ℕ)) (t : Written) (es : Expressions) (n : ℕ) (i : Expression) (r s : Span) (ts rest : List Token) →
     ¬ Spells names (tree.index (tree.new_array t es n r) i s) ts rest
+
+-- A tree has the bytes from the beginning of its first token to the end of its last one, or, where it is a type argument
+-- that ends inside a `>>` or `>>>`, to the end of its own `>`.
+pub record HasBytesOf (s : Span) (ts rest : List Token) : Type 0 where
+  pub begins : Begins s ts
+  pub ends : Ends s.end ts rest
+
+abbrev pub SpansAreExtents : {T : Type 0} → (T → List Token → List Token → Type 0) → (T → Span) → Type 0
+SpansAreExtents {T} spells span = (t : T) (ts rest : List Token) → spells t ts rest → HasBytesOf (span t) ts rest

@@ -12,5 +12,6 @@
 mod laws;
 
 pub use laws::{
-    cast_before_operand, creation_not_indexed, else_of_nearest_if, size_within_tokens, spells_some,
+    cast_before_operand, creation_not_indexed, else_of_nearest_if, size_within_tokens,
+    spans_are_extents, spells_some,
 };
