@@ -1,4 +1,4 @@
-pub mod RowHeights
+pub mod ListHeights
 pub mod VariantHeights
 pub mod HeightWithinSize
 pub mod UnitHeight

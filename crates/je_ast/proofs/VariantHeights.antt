@@ -31,7 +31,7 @@ use Rattle.je_ast.specs.declared.decl.TypeParam.{TypeParam}
 use Rattle.je_ast.specs.declared.decl.Formal.{Formal}
 use Rattle.je_ast.specs.Height.{constants_height}
 use Rattle.je_ast.specs.MemoryHeight.{type_height_of, types_height_of, option_type_height_of, parameters_height_of, formals_height_of, height_of, heights_of, option_height_of, variables_height_of, start_height_of, statement_height_of, statements_height_of, option_block_height_of, groups_height_of, catches_height_of, first_call_height_of, member_height_of, members_height_of, declaration_height_of}
-use Rattle.je_ast.proofs.RowHeights.{types_height-hidden, types_height-types_of, type_height-type_if, parameters_height-map, formals_height-map, heights-hidden, height-back, variables_height-hidden, statements_height-hidden, groups_height-hidden, catches_height-hidden, members_height-hidden, block_height-back}
+use Rattle.je_ast.proofs.ListHeights.{types_height-hidden, types_height-types_of, type_height-type_if, parameters_height-map, formals_height-map, heights-hidden, height-back, variables_height-hidden, statements_height-hidden, groups_height-hidden, catches_height-hidden, members_height-hidden, block_height-back}
 
 pub height_of-Literal : (l : Literal) (s : Span) → height_of (Expr.Literal l s) ≡ 1
 unfolding type_height_of height_of start_height_of statement_height_of first_call_height_of member_height_of declaration_height_of

@@ -27,3 +27,6 @@ pub use name::{Identifier, Name};
 pub use operator::{BinaryOp, PostfixOp, PrefixOp};
 pub use stmt::{Block, Catch, ForInit, Group, Label, Stmt, Var};
 pub use ty_name::{Primitive, TyName};
+
+#[cfg(test)]
+mod tests;
