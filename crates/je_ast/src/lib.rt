@@ -3,6 +3,9 @@
 //! Contracts never look at a tree in memory itself, since it has boxes and vectors. They see it through a view without
 //! them: `view` of an expression, `statement_view`, `member_view`, `declaration_view`, `unit_view` (`specs/View.antt`),
 //! which give the types of `specs/Trees.antt`. Over these stand `height`, `size` and `span_of` with their kin.
+//!
+//! A parser makes a tree without lists by its variant, whose view computes, and one with a list by its `make_` function,
+//! whose clause says the view. `height` is a unit's height.
 #![tactic(auto)]
 
 mod decl;
