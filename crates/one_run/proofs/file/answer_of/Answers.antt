@@ -11,7 +11,8 @@ use Rattle.one_program.specs.Elaboration.{Elaborates}
 use Rattle.one_program.specs.Scope.{members_of}
 use Rattle.one_sound.proofs.NeverWrong.{main_replies}
 use Rattle.one_run.specs.One.{run_units}
-use Rattle.one_run.proofs.Sizes.{tokens-within, names-within, spelled-within}
+use Rattle.one_program.proofs.Tokens.{declarations-tokens}
+use Rattle.one_run.proofs.Sizes.{tokens-within, names-within}
 use Rattle.one_run.proofs.Answering.{without-tokens, without-tree, without-fit, with-program, ok-then}
 use Rattle.one_run.proofs.file.answer_of.Goals as goal
 
@@ -52,7 +53,7 @@ build-requires-clause-few_declarations c =
     let spelled = subst (λ o. IfSome o (λ t. Spells (view_one t) c.deref.result.now)) c.in-Some-2.is c.in_ok-one.ensures.spells in
     let spells = subst (Spells one) c.deref.ensures.value spelled in
     let most = tokens-within lexes in
-    let within = spelled-within spells in
+    let within = declarations-tokens one c.in-Some.tokens.items spells in
     omega arith
 
 pub run_main-requires : goal.run_main-requires
