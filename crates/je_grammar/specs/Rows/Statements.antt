@@ -15,7 +15,7 @@ use Rattle.je_ast.specs.Types.{primitive, class_type, no_types, more_types}
 use Rattle.je_ast.specs.Trees as tree
 use Rattle.je_grammar.specs.Tokens.{it_is, one_closes, first_of_two, first_of_three}
 use Rattle.je_grammar.specs.Types.{simple_name, qualified_name, no_dims, more_dims, primitive_type, reference_type, plain_ref, ref_with_arguments, last_argument, no_parameters, not_final, is_final, word_modifier, no_modifiers, more_modifiers}
-use Rattle.je_grammar.specs.Grammar.{int_literal, null_literal, no_label, a_label, no_extends, no_implements, is_literal, is_simple_name, is_call, is_call_on, is_super_call, is_new, is_new_anonymous, is_prefix, is_postfix, is_binary, is_assign, no_arguments, expression_init, array_init, is_array_init, some_inits, last_init_and_comma, more_inits, last_variable, more_variables, without_init, with_init, nothing, something, last_step, more_steps, no_steps, some_steps, start_locals, start_steps, is_block, is_empty, is_labelled, is_if_only, is_if_else, is_while, is_do, is_for, is_for_each, is_switch, is_break, is_continue, is_return, is_throw, is_try, is_try_finally, step_statement, condition, no_catches, more_catches, no_groups, last_labels, more_groups, last_case, last_default, more_cases, last_statement, more_statements, empty_block, full_block, is_local, is_local_class, is_statement, is_body, no_members, class_declaration, SpellsBlockStatement}
+use Rattle.je_grammar.specs.Grammar.{int_literal, null_literal, no_label, a_label, no_extends, no_implements, is_literal, is_simple_name, is_call, is_call_on, is_super_call, is_new, is_new_anonymous, is_prefix, is_postfix, is_binary, is_assign, no_arguments, expression_init, array_init, is_array_init, some_inits, last_init_and_comma, more_inits, last_variable, more_variables, without_init, with_init, nothing, something, last_step, more_steps, no_steps, some_steps, start_locals, start_steps, is_block, is_empty, is_labelled, is_if_only, is_if_else, is_while, is_do, is_for, is_for_each, is_switch, is_break, is_continue, is_return, is_throw, is_try, is_try_finally, step_statement, condition, no_catches, more_catches, no_groups, last_labels, more_groups, last_case, last_default, more_cases, more_defaults, last_statement, more_statements, empty_block, full_block, is_local, is_local_class, is_statement, is_body, no_members, class_declaration, SpellsBlockStatement}
 use Rattle.je_grammar.specs.Rows.Scale.{from, id, named, sy, wd, num, names}
 
 -- G<G<A>> x;
@@ -222,6 +222,18 @@ empty_switch_row : SpellsBlockStatement names (tree.switch (from 0 6) (tree.name
     symbol.CloseBrace 13 ∷ []) []
 empty_switch_row = is_statement (is_switch it_is (condition it_is (is_simple_name it_is) it_is) it_is (no_groups
     it_is))
+
+-- switch (a) { default: case 1: f(); }
+default_first_row : SpellsBlockStatement names (tree.switch (from 0 6) (tree.name (named 0 8)) (tree.more_groups
+    (tree.default_label (from 13 20) (tree.case_label (tree.literal (lit.Int (pos 1)) (from 27 28)) tree.no_labels))
+    (tree.more_statements (tree.step (from 30 31) (tree.call (named 5 30) tree.no_expressions (from 30 33)) (from 30
+    34)) tree.no_statements) tree.no_groups) (from 0 36)) (wd word.Switch 0 ∷ sy symbol.OpenParen 7 ∷ id 0 8 ∷ sy
+    symbol.CloseParen 9 ∷ sy symbol.OpenBrace 11 ∷ wd word.Default 13 ∷ sy symbol.Colon 20 ∷ wd word.Case 22 ∷ num
+    kind.IntLiteral 1 27 28 ∷ sy symbol.Colon 28 ∷ id 5 30 ∷ sy symbol.OpenParen 31 ∷ sy symbol.CloseParen 32 ∷ sy
+    symbol.Semicolon 33 ∷ sy symbol.CloseBrace 35 ∷ []) []
+default_first_row = is_statement (is_switch it_is (condition it_is (is_simple_name it_is) it_is) it_is (more_groups
+    (more_defaults it_is it_is (last_case it_is (is_literal (int_literal it_is)) it_is)) (last_statement
+    (is_statement (step_statement refl (is_call it_is (no_arguments it_is it_is)) it_is))) (no_groups it_is)))
 
 -- { break a; continue; }
 break_row : SpellsBlockStatement names (tree.block (from 0 1) (tree.more_statements (tree.break (from 2 7) (Some
