@@ -9,6 +9,8 @@ mod expressions;
 mod front;
 mod members;
 mod statements;
+#[cfg(test)]
+mod tests;
 mod tree;
 
 pub use front::{MAX_HEIGHT, read, unique_tree};
