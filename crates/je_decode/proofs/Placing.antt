@@ -1,5 +1,5 @@
 -- One character more is placed.
-use Rattle.std.proofs.Common.{◌≡◌, ℕ, ◌+◌, ◌*◌, ◌<◌, ◌≤◌, List, [], ◌∷◌, ◌++◌, length, drop, get_or, sym, ◌∙◌, ap, append_assoc, append-nil, refl, arith}
+use Rattle.std.proofs.Common.{◌≡◌, ℕ, suc, ◌+◌, ◌*◌, ◌<◌, ◌≤◌, List, [], ◌∷◌, ◌++◌, length, drop, get_or, sym, ◌∙◌, ap, append_assoc, append-nil, refl, arith}
 use Rattle.std.specs.Char.{encode_utf8}
 use Rattle.std.specs.Str.{chars, IsUtf8}
 use Rattle.std.proofs.lemmas.List.{at_drop_more, at_drop_all}
@@ -29,3 +29,10 @@ placed_all cs n start all before whole =
 
 pub few_chars : (text : List ℕ) → IsUtf8 text → length (chars text) ≤ length text
 few_chars text good = let few = length-le-encodes (chars text) in let same = ap length (encodes-chars text good) in omega arith
+
+length-placed : (at : ℕ) (cs : List ℕ) → length (placed at cs) ≡ length cs
+length-placed at [] = refl
+length-placed at (c ∷ cs) = ap suc (length-placed (at + length (encode_utf8 c)) cs)
+
+pub few_placed : (text : List ℕ) (all : List Character) → IsUtf8 text → all ≡ placed 0 (chars text) → length all ≤ length text
+few_placed text all good is = let few = few_chars text good in let same = length-placed 0 (chars text) in let whole = ap length is in omega arith

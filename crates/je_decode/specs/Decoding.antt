@@ -27,14 +27,18 @@ pub record Decodes (bytes : List ℕ) (all : List Character) : Type 0 where
 abbrev pub IsNotUtf8 : List ℕ → ℕ → Type 0
 IsNotUtf8 = IsValidUpTo
 
--- The bytes are UTF-8, and the first malformed escape begins at this byte.
-pub record HasBadEscape (bytes : List ℕ) (at : ℕ) : Type 0 where
+-- The bytes are UTF-8, and this backslash begins the first malformed escape.
+pub record HasBadEscape (bytes : List ℕ) (bad : Character) : Type 0 where
   pub utf8 : IsUtf8 bytes
-  pub malformed : Malformed false (placed 0 (chars bytes)) at
+  pub malformed : Malformed false (placed 0 (chars bytes)) bad
+
+-- Why bytes have no characters.
+abbrev pub IsRefused : DecodeFault → List ℕ → Type 0
+IsRefused fault.Memory bytes = Unit {0}
+IsRefused (fault.NotUtf8 at) bytes = IsNotUtf8 bytes at
+IsRefused (fault.BadEscape bad) bytes = HasBadEscape bytes bad
 
 -- The bytes' characters, or why there are none, unless memory ran out.
 abbrev pub IsDecoded : Result (Vec Character Global) DecodeFault → List ℕ → Type 0
 IsDecoded (Ok all) bytes = Decodes bytes all.items
-IsDecoded (Err fault.Memory) bytes = Unit {0}
-IsDecoded (Err (fault.NotUtf8 at)) bytes = IsNotUtf8 bytes at
-IsDecoded (Err (fault.BadEscape at)) bytes = HasBadEscape bytes at
+IsDecoded (Err e) bytes = IsRefused e bytes

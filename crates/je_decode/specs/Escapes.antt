@@ -82,7 +82,7 @@ pub data Translates : Bool → List Character → List Character → Type 0 wher
   done : {odd : Bool} → Translates odd [] []
   more : {odd : Bool} {c : Character} {cs : List Character} {p : Piece} {ds : List Character} → piece odd c cs ≡ Some p → Translates (turns odd c cs) p.rest ds → Translates odd (c ∷ cs) (p.character ∷ ds)
 
--- The first malformed escape of the text begins at this byte.
-pub data Malformed : Bool → List Character → ℕ → Type 0 where
-  here : {odd : Bool} {c : Character} {cs : List Character} → piece odd c cs ≡ None → Malformed odd (c ∷ cs) c.start
-  later : {odd : Bool} {c : Character} {cs : List Character} {p : Piece} {at : ℕ} → piece odd c cs ≡ Some p → Malformed (turns odd c cs) p.rest at → Malformed odd (c ∷ cs) at
+-- This backslash begins the first malformed escape of the text.
+pub data Malformed : Bool → List Character → Character → Type 0 where
+  here : {odd : Bool} {c : Character} {cs : List Character} → piece odd c cs ≡ None → Malformed odd (c ∷ cs) c
+  later : {odd : Bool} {c bad : Character} {cs : List Character} {p : Piece} → piece odd c cs ≡ Some p → Malformed (turns odd c cs) p.rest bad → Malformed odd (c ∷ cs) bad

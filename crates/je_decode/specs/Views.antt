@@ -18,4 +18,4 @@ abbrev pub IsTranslated : Result (Vec Character Global) DecodeFault → List Cha
 IsTranslated (Ok all) raw = Translates false raw all.items
 IsTranslated (Err fault.Memory) raw = Unit {0}
 IsTranslated (Err (fault.NotUtf8 at)) raw = ⊥
-IsTranslated (Err (fault.BadEscape at)) raw = Malformed false raw at
+IsTranslated (Err (fault.BadEscape bad)) raw = Malformed false raw bad

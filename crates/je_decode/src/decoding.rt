@@ -1,5 +1,5 @@
 //! From bytes to characters.
-ghost use Rattle.std.specs.Prelude.{◌≡◌, ◌≤◌, ◌^◌, length};
+ghost use Rattle.std.specs.Prelude.{◌≡◌, ◌≤◌, ◌^◌, length, IfOk};
 ghost use Rattle.je_decode.specs.Decoding.{ends_in_mark, without_mark, IsDecoded};
 
 use crate::character::Character;
@@ -12,7 +12,8 @@ use std::alloc::Global;
 /// malformed escape.
 pub fn decode(alloc: Global, bytes: &[u8]) -> Result<Vec<Character>, DecodeFault>
     requires { length bytes.now ≤ 2 ^ 20 }
-    ensures { IsDecoded result bytes.now }
+    ensures value { IsDecoded result bytes.now }
+    ensures few { IfOk result (λ all. length all.items ≤ length bytes.now) }
 {
     let text = match str::from_utf8(bytes) {
         Ok(text) => text,
@@ -29,7 +30,8 @@ pub fn decode(alloc: Global, bytes: &[u8]) -> Result<Vec<Character>, DecodeFault
 }
 
 fn drop_mark(all: &mut Vec<Character>)
-    ensures { all.new.items ≡ without_mark all.old.items }
+    ensures value { all.new.items ≡ without_mark all.old.items }
+    ensures few { length all.new.items ≤ length all.old.items }
 {
     if ends_in_mark(all) {
         let _ = all.pop();

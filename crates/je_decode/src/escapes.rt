@@ -1,5 +1,5 @@
 //! Unicode escapes.
-ghost use Rattle.std.specs.Prelude.{◌≡◌, ◌<◌, ◌≤◌, ◌+◌, ◌*◌, length, option_map, IfSome, IsTrue, if◌then◌else◌};
+ghost use Rattle.std.specs.Prelude.{◌≡◌, ◌<◌, ◌≤◌, ◌+◌, ◌*◌, length, option_map, IfSome, IfOk, IsTrue, if◌then◌else◌};
 ghost use Rattle.std.specs.Char.{digit_value};
 ghost use Rattle.je_decode.specs.Escapes.{begins_with, opens, turns, behind_marks, is_hexadecimal, one_digit, escape, is_high, is_low, pair, low_half, paired, piece};
 ghost use Rattle.je_decode.specs.Views.{escape_said, piece_said, IsTranslated};
@@ -169,14 +169,15 @@ fn piece(odd: bool, c: Character, rest: &[Character]) -> Option<PieceFound<'_>>
 
 /// The characters of a text, its escapes translated.
 pub fn translate(alloc: Global, raw: &[Character]) -> Result<Vec<Character>, DecodeFault>
-    ensures { IsTranslated result raw.now }
+    ensures value { IsTranslated result raw.now }
+    ensures few { IfOk result (λ all. length all.items ≤ length raw.now) }
 {
     let mut all = Vec::new(alloc);
     let mut odd = false;
     let mut rest = raw;
     while let Some((c, behind)) = rest.split_first() {
         let Some(piece) = piece(odd, *c, behind) else {
-            return Err(DecodeFault::BadEscape { at: c.start });
+            return Err(DecodeFault::BadEscape(*c));
         };
         all.push(piece.character)?;
         odd = turns(odd, *c, behind);

@@ -2,6 +2,7 @@
 ghost use Rattle.std.specs.Prelude.{◌≡◌};
 ghost use Rattle.je_decode.specs.declared.fault.DecodeFault.TheVariants.{Memory as memory};
 
+use crate::character::Character;
 use je_core::Memory;
 use std::alloc::{AllocError, AllocFailed};
 
@@ -12,8 +13,8 @@ pub enum DecodeFault {
     Memory,
     /// The byte at this place begins no well-formed sequence of UTF-8.
     NotUtf8 { at: u32 },
-    /// The backslash at this place begins a Unicode escape that is malformed.
-    BadEscape { at: u32 },
+    /// This backslash begins a Unicode escape that is malformed.
+    BadEscape(Character),
 }
 
 impl From<Memory> for DecodeFault {

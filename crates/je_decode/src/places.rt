@@ -10,7 +10,8 @@ use std::alloc::Global;
 /// The characters of a text, each with its bytes.
 pub fn place_characters(alloc: Global, text: &str) -> Result<Vec<Character>, Memory>
     requires { length text.now ≤ 2 ^ 20 }
-    ensures { IfOk result (λ all. all.items ≡ placed 0 (chars text.now)) }
+    ensures value { IfOk result (λ all. all.items ≡ placed 0 (chars text.now)) }
+    ensures few { IfOk result (λ all. length all.items ≤ length text.now) }
 {
     let mut all = Vec::new(alloc);
     let mut start = 0;

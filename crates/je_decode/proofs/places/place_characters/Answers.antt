@@ -4,7 +4,7 @@ use Rattle.std.specs.Str.{chars}
 use Rattle.std.proofs.lemmas.Iterator.{YieldsList-from_chars}
 use Rattle.std.proofs.lemmas.Iterator.Consumers.{YieldsList-turn, YieldsList-end}
 use Rattle.std.proofs.lemmas.List.{length_push}
-use Rattle.je_decode.proofs.Placing.{placed_more, placed_all}
+use Rattle.je_decode.proofs.Placing.{placed_more, placed_all, few_placed}
 use Rattle.je_decode.proofs.places.place_characters.Goals as goal
 
 pub loop-c-preserved : goal.loop-c-preserved
@@ -17,4 +17,5 @@ loop-c-preserved c =
 pub returns : goal.returns
 returns c =
     let t = YieldsList-end (YieldsList-from_chars c.args.text.now c.utf8.text cc) c.loop-c.yielded _ c.loop-c.yielded_by _ _ c.in-None.is c.next.ensures.steps in
-    placed_all (chars c.args.text.now) _ _ _ c.loop-c.invariant t.1
+    let value = placed_all (chars c.args.text.now) _ _ _ c.loop-c.invariant t.1 in
+    record { value = value; few = few_placed c.args.text.now _ c.utf8.text value }

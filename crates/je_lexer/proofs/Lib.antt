@@ -1,0 +1,4 @@
+pub mod Bodies
+pub mod Giving
+pub mod Refusing
+pub mod Underway

@@ -1,0 +1,70 @@
+-- JLS 3.2, 3.5 to 3.12: what stands at the front of a text: white space or a comment, a token, or a fault. Each is the longest
+-- that begins there.
+use Rattle.std.specs.Prelude.{ℕ, suc, ◌+◌, false, ◌&&◌, ◌||◌, ◌==◌, List, [], ◌∷◌, length, take, drop, Option, Some, None, if◌then◌else◌}
+use Rattle.je_decode.specs.declared.character.Character.{Character}
+use Rattle.je_token.specs.Texts.{symbol_text}
+use Rattle.je_token.specs.declared.symbol.Symbol.{Symbol}
+use Rattle.je_lexer.specs.Classes.{is_space, starts_name, is_digit_below, begins_with, begins_with_digit, tail}
+use Rattle.je_lexer.specs.Numbers.{number_before}
+use Rattle.je_lexer.specs.Runs.{space_run, name_run, number_run, line_run, comment_run, literal_run}
+use Rattle.je_lexer.specs.Words.{symbol_at}
+use Rattle.je_lexer.specs.declared.cutting.Cut.{Cut}
+use Rattle.je_lexer.specs.declared.cutting.Cut.TheVariants as cut
+use Rattle.je_lexer.specs.declared.fault.FaultKind.TheVariants as kind
+use Rattle.je_lexer.specs.declared.numbers.Number.{Number}
+
+-- the byte behind the last of the characters; what it is where there is none
+abbrev pub end_of : ℕ → List Character → ℕ
+end_of end [] = end
+end_of end (c ∷ cs) = end_of c.end cs
+
+-- the byte at which the text begins, or the file's end
+abbrev pub start_of : ℕ → List Character → ℕ
+start_of file_end [] = file_end
+start_of file_end (c ∷ cs) = c.start
+
+-- up to the end of the longest run of identifier characters and points
+unfoldable pub bad_number : Character → List Character → Cut
+bad_number c cs = cut.Fault kind.BadLiteral c.start (end_of c.end (take (number_run cs) cs))
+
+abbrev pub if_number : Cut → Option Number → ℕ → Cut
+if_number fault None len = fault
+if_number fault (Some n) len = cut.Number n len
+
+unfoldable pub number_cut : Character → List Character → Cut
+number_cut c cs = if_number (bad_number c cs) (number_before (drop (name_run cs) cs) (take (suc (name_run cs)) (c ∷ cs))) (suc (name_run cs))
+
+-- c is the quote
+unfoldable pub literal_cut : ℕ → Character → List Character → Cut
+literal_cut file_end c cs =
+    if begins_with c.code (drop (literal_run c.code false cs) cs) then cut.Literal (literal_run c.code false cs + 2)
+    else cut.Fault kind.OpenText c.start (start_of file_end (drop (literal_run c.code false cs) cs))
+
+-- cs stands behind `/*`
+unfoldable pub comment_cut : ℕ → Character → List Character → Cut
+comment_cut file_end c cs =
+    if begins_with 42 (drop (comment_run cs) cs) && begins_with 47 (tail (drop (comment_run cs) cs)) then cut.Blank (comment_run cs + 4) else cut.Fault kind.OpenComment c.start file_end
+
+abbrev pub if_symbol : Character → Option Symbol → Cut
+if_symbol c None = cut.Fault kind.BadChar c.start c.end
+if_symbol c (Some s) = cut.Symbol s (length (symbol_text s))
+
+unfoldable pub cut_at : ℕ → Character → List Character → Cut
+cut_at file_end c cs =
+    if is_space c.code then cut.Blank (suc (space_run cs))
+    else if starts_name c.code then cut.Word (suc (name_run cs))
+    else if is_digit_below 10 c.code then number_cut c cs
+    else if (c.code == 46) && begins_with_digit 10 cs then bad_number c cs
+    else if (c.code == 34) || (c.code == 39) then literal_cut file_end c cs
+    else if (c.code == 47) && begins_with 47 cs then cut.Blank (suc (line_run cs))
+    else if (c.code == 47) && begins_with 42 cs then comment_cut file_end c (tail cs)
+    else if_symbol c (symbol_at (c ∷ cs))
+
+-- how many characters are cut
+abbrev pub cut_len : Cut → Option ℕ
+cut_len (cut.Blank n) = Some n
+cut_len (cut.Word n) = Some n
+cut_len (cut.Symbol s n) = Some n
+cut_len (cut.Number number n) = Some n
+cut_len (cut.Literal n) = Some n
+cut_len (cut.Fault kind start end) = None

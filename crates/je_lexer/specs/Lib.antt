@@ -1,0 +1,11 @@
+pub mod Classes
+pub mod Cutting
+pub mod Lexing
+pub mod Numbers
+pub mod Reading
+pub mod Runs
+pub mod Steps
+pub mod Texts
+pub mod Tokens
+pub mod Views
+pub mod Words

@@ -1,0 +1,127 @@
+//! How many characters stand at the front of a text.
+ghost use Rattle.std.specs.Prelude.{◌≡◌, ◌≤◌, length, false};
+ghost use Rattle.je_lexer.specs.Runs.{space_run, name_run, number_run, hexadecimal_run, line_run, comment_run, literal_run};
+
+use crate::classes::{begins_with, continues_name, ends_line, is_digit_below, is_space};
+use je_decode::Character;
+
+/// The white space at the front.
+pub fn space_run(text: &[Character]) -> usize
+    ensures value { result ≡ space_run text.now }
+    ensures within { result ≤ length text.now }
+{
+    let mut n = 0;
+    let mut rest = text;
+    while let Some((c, behind)) = rest.split_first() {
+        if !is_space(c.code) {
+            return n;
+        }
+        n += 1;
+        rest = behind;
+    }
+    n
+}
+
+/// The characters of an identifier at the front.
+pub fn name_run(text: &[Character]) -> usize
+    ensures value { result ≡ name_run text.now }
+    ensures within { result ≤ length text.now }
+{
+    let mut n = 0;
+    let mut rest = text;
+    while let Some((c, behind)) = rest.split_first() {
+        if !continues_name(c.code) {
+            return n;
+        }
+        n += 1;
+        rest = behind;
+    }
+    n
+}
+
+/// The characters of identifiers, and points, at the front.
+pub fn number_run(text: &[Character]) -> usize
+    ensures value { result ≡ number_run text.now }
+    ensures within { result ≤ length text.now }
+{
+    let mut n = 0;
+    let mut rest = text;
+    while let Some((c, behind)) = rest.split_first() {
+        if !(continues_name(c.code) || c.code == 46) {
+            return n;
+        }
+        n += 1;
+        rest = behind;
+    }
+    n
+}
+
+/// The hexadecimal digits at the front.
+pub fn hexadecimal_run(text: &[Character]) -> usize
+    ensures value { result ≡ hexadecimal_run text.now }
+    ensures within { result ≤ length text.now }
+{
+    let mut n = 0;
+    let mut rest = text;
+    while let Some((c, behind)) = rest.split_first() {
+        if !is_digit_below(16, c.code) {
+            return n;
+        }
+        n += 1;
+        rest = behind;
+    }
+    n
+}
+
+/// Up to the line's end.
+pub fn line_run(text: &[Character]) -> usize
+    ensures value { result ≡ line_run text.now }
+    ensures within { result ≤ length text.now }
+{
+    let mut n = 0;
+    let mut rest = text;
+    while let Some((c, behind)) = rest.split_first() {
+        if ends_line(c.code) {
+            return n;
+        }
+        n += 1;
+        rest = behind;
+    }
+    n
+}
+
+/// Up to the first `*/`.
+pub fn comment_run(text: &[Character]) -> usize
+    ensures value { result ≡ comment_run text.now }
+    ensures within { result ≤ length text.now }
+{
+    let mut n = 0;
+    let mut rest = text;
+    while let Some((c, behind)) = rest.split_first() {
+        if c.code == 42 && begins_with(47, behind) {
+            return n;
+        }
+        n += 1;
+        rest = behind;
+    }
+    n
+}
+
+/// What stands between a literal's quotes, or up to its line's end.
+pub fn literal_run(quote: u32, text: &[Character]) -> usize
+    ensures value { result ≡ literal_run quote false text.now }
+    ensures within { result ≤ length text.now }
+{
+    let mut n = 0;
+    let mut escaped = false;
+    let mut rest = text;
+    while let Some((c, behind)) = rest.split_first() {
+        if ends_line(c.code) || !escaped && c.code == quote {
+            return n;
+        }
+        n += 1;
+        escaped = !escaped && c.code == 92;
+        rest = behind;
+    }
+    n
+}
