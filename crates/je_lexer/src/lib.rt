@@ -24,3 +24,6 @@ pub use fault::{FaultKind, LexFault};
 pub use je_token::{Keyword, Symbol, Token, TokenKind};
 pub use lexing::Tokens;
 pub use reading::lex;
+
+#[cfg(test)]
+mod tests;

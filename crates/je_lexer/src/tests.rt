@@ -1,0 +1,163 @@
+//! Texts with their tokens or their fault.
+use super::*;
+use std::test::Fail;
+
+// Each token as a letter and its bytes: k keyword, i identifier, s symbol, n int, l long, c character, t text, e end.
+fn letter(kind: TokenKind) -> char {
+    match kind {
+        TokenKind::Keyword(_) => 'k',
+        TokenKind::Symbol(_) => 's',
+        TokenKind::Identifier => 'i',
+        TokenKind::IntLiteral => 'n',
+        TokenKind::LongLiteral => 'l',
+        TokenKind::CharLiteral => 'c',
+        TokenKind::TextLiteral => 't',
+        TokenKind::End => 'e',
+    }
+}
+
+#[test]
+fn gives_tokens(rt: HostRuntime) -> Result<(), Fail> {
+    let rows: [(&str, &str); 44] = [
+        ("", "e0..0"),
+        ("class A { }", "k0..5 i6..7 s8..9 s10..11 e11..11"),
+        ("x$_1", "i0..4 e4..4"),
+        ("truely true", "i0..6 k7..11 e11..11"),
+        (">>>=", "s0..4 e4..4"),
+        (">>> =", "s0..3 s4..5 e5..5"),
+        ("a>>>b", "i0..1 s1..4 i4..5 e5..5"),
+        ("a+++b", "i0..1 s1..3 s3..4 i4..5 e5..5"),
+        ("....", "s0..3 s3..4 e4..4"),
+        ("..", "s0..1 s1..2 e2..2"),
+        ("a.b", "i0..1 s1..2 i2..3 e3..3"),
+        ("/", "s0..1 e1..1"),
+        ("/=", "s0..2 e2..2"),
+        ("/**/", "e4..4"),
+        ("/*/ */x", "i6..7 e7..7"),
+        ("// a\nb", "i5..6 e6..6"),
+        ("// a\r\nb", "i6..7 e7..7"),
+        ("0", "n0..1=0 e1..1"),
+        ("017", "n0..3=15 e3..3"),
+        ("0x7fffffff", "n0..10=2147483647 e10..10"),
+        ("0xffffffff", "n0..10=-1 e10..10"),
+        ("037777777777", "n0..12=-1 e12..12"),
+        ("2147483648", "n0..10=2147483648 e10..10"),
+        ("9223372036854775808L", "l0..20=9223372036854775808 e20..20"),
+        ("0xFFFFFFFFFFFFFFFFL", "l0..19=-1 e19..19"),
+        ("0l", "l0..2=0 e2..2"),
+        ("1L.foo", "l0..2=1 s2..3 i3..6 e6..6"),
+        ("0x1.foo", "n0..3=1 s3..4 i4..7 e7..7"),
+        ("'a'", "c0..3=97 e3..3"),
+        ("'\\''", "c0..4=39 e4..4"),
+        ("'\\377'", "c0..6=255 e6..6"),
+        ("'\"'", "c0..3=34 e3..3"),
+        ("'\\\\'", "c0..4=92 e4..4"),
+        ("'\\u0041'", "c0..8=65 e8..8"),
+        ("'\\uD800'", "c0..8=55296 e8..8"),
+        ("\"\"", "t0..2 e2..2"),
+        ("\"a\\\"b\"", "t0..6 e6..6"),
+        ("\\u0022a\"", "t0..8 e8..8"),
+        ("\"\\\\u0041\"", "t0..9 e9..9"),
+        ("\\u0061b", "i0..7 e7..7"),
+        ("\\uuu0061", "i0..8 e8..8"),
+        ("a\u{1a}", "i0..1 e2..2"),
+        ("a\\u001a", "i0..1 e7..7"),
+        ("\u{10400}x", "i0..5 e5..5"),
+    ];
+    for (text, expected) in rows {
+        assert!(rt; text.len() <= 1_048_576);
+        let tokens = match lex(rt.alloc(), 0, text.as_bytes()) {
+            Ok(tokens) => tokens,
+            Err(fault) => {
+                eprintln!(rt; "{text}: {fault:?}")?;
+                return Err("a fault")?;
+            }
+        };
+        let mut found = String::new(rt.alloc());
+        for token in &tokens.list {
+            if !found.is_empty() {
+                found.push(' ')?;
+            }
+            write!(
+                found,
+                "{}{}..{}",
+                letter(token.kind),
+                token.span.start,
+                token.span.end
+            )?;
+            if matches!(
+                token.kind,
+                TokenKind::IntLiteral | TokenKind::LongLiteral | TokenKind::CharLiteral
+            ) {
+                write!(found, "={}", token.value)?;
+            }
+        }
+        assert!(rt; found.as_str() == expected, "{text}: {found}");
+    }
+    Ok(())
+}
+
+#[test]
+fn gives_faults(rt: HostRuntime) -> Result<(), Fail> {
+    let rows: [(&[u8], FaultKind, u32, u32); 46] = [
+        (b"a\xff", FaultKind::NotUtf8, 1, 2),
+        (b"\\u12 \xc3", FaultKind::NotUtf8, 5, 6),
+        (b"'\xe2\x82", FaultKind::NotUtf8, 1, 2),
+        (b"# \\u12", FaultKind::BadEscape, 2, 3),
+        (b"\\u", FaultKind::BadEscape, 0, 1),
+        (b"\\u00g1", FaultKind::BadEscape, 0, 1),
+        (b"// \\uuu", FaultKind::BadEscape, 3, 4),
+        (b"#", FaultKind::BadChar, 0, 1),
+        (b"a \\ b", FaultKind::BadChar, 2, 3),
+        (b"\\\\u0041", FaultKind::BadChar, 0, 1),
+        (b"\\ud800", FaultKind::BadChar, 0, 6),
+        (b"\x1a\x1a", FaultKind::BadChar, 0, 1),
+        (b"\xef\xbb\xbfx", FaultKind::BadChar, 0, 3),
+        (b"a /* b", FaultKind::OpenComment, 2, 6),
+        (b"/* *", FaultKind::OpenComment, 0, 4),
+        (b"/*/", FaultKind::OpenComment, 0, 3),
+        (b"/* \x1a", FaultKind::OpenComment, 0, 4),
+        (b"\"ab", FaultKind::OpenText, 0, 3),
+        (b"\"a\\q", FaultKind::OpenText, 0, 4),
+        (b"\"abc\\\nd\"", FaultKind::OpenText, 0, 5),
+        (b"\"a\r\n\"", FaultKind::OpenText, 0, 2),
+        (b"'a\n'", FaultKind::OpenText, 0, 2),
+        (b"\"a\x1a", FaultKind::OpenText, 0, 3),
+        (b"\"a\\q\"", FaultKind::BadEscape, 2, 3),
+        (b"'ab\\q'", FaultKind::BadEscape, 3, 4),
+        (b"\"\\8\"", FaultKind::BadEscape, 1, 2),
+        (b"''", FaultKind::BadLiteral, 0, 2),
+        (b"'''", FaultKind::BadLiteral, 0, 2),
+        (b"'ab'", FaultKind::BadLiteral, 0, 4),
+        (b"'\xf0\x90\x90\x80'", FaultKind::BadLiteral, 0, 6),
+        (b"08", FaultKind::BadLiteral, 0, 2),
+        (b"09L", FaultKind::BadLiteral, 0, 3),
+        (b"0x", FaultKind::BadLiteral, 0, 2),
+        (b"0xL", FaultKind::BadLiteral, 0, 3),
+        (b"1.", FaultKind::BadLiteral, 0, 2),
+        (b".5", FaultKind::BadLiteral, 0, 2),
+        (b"a.5", FaultKind::BadLiteral, 1, 3),
+        (b"07.foo", FaultKind::BadLiteral, 0, 6),
+        (b"0x1.8p1", FaultKind::BadLiteral, 0, 7),
+        (b"0x.8p1", FaultKind::BadLiteral, 0, 6),
+        (b"1e5", FaultKind::BadLiteral, 0, 3),
+        (b"1a+", FaultKind::BadLiteral, 0, 2),
+        (b"2147483649", FaultKind::BadLiteral, 0, 10),
+        (b"9223372036854775809L", FaultKind::BadLiteral, 0, 20),
+        (b"0x100000000", FaultKind::BadLiteral, 0, 11),
+        (b"0x10000000000000000L", FaultKind::BadLiteral, 0, 20),
+    ];
+    for (bytes, kind, start, end) in rows {
+        assert!(rt; bytes.len() <= 1_048_576);
+        match lex(rt.alloc(), 0, bytes) {
+            Ok(_) => return Err("tokens")?,
+            Err(LexFault::Memory) => return Err("memory")?,
+            Err(LexFault::At { kind: found, span }) => {
+                assert_eq!(rt; found, kind, "{start}..{end}");
+                assert_eq!(rt; span.start, start);
+                assert_eq!(rt; span.end, end);
+            }
+        }
+    }
+    Ok(())
+}
