@@ -1,4 +1,7 @@
+pub mod Apart
 pub mod Bodies
 pub mod Giving
+pub mod Inside
 pub mod Refusing
+pub mod Total
 pub mod Underway

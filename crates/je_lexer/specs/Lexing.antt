@@ -1,6 +1,6 @@
 -- JLS 3.2 and 3.5: the tokens of a source file. Its characters are a row of pieces, and the tokens are the pieces that are
 -- tokens, in order, and then one of kind End.
-use Rattle.std.specs.Prelude.{◌≡◌, ◌+◌, ℕ, pos, List, [], ◌∷◌, ◌++◌, length, take, drop, Option, Some, None, Result, Ok, Err}
+use Rattle.std.specs.Prelude.{◌≡◌, ◌+◌, ◌≤◌, ℕ, pos, List, [], ◌∷◌, ◌++◌, length, take, drop, Option, Some, None, Result, Ok, Err}
 use Rattle.je_decode.specs.Decoding.{Decodes, IsNotUtf8, HasBadEscape}
 use Rattle.je_decode.specs.declared.character.Character.{Character}
 use Rattle.je_token.specs.declared.token.Token.{Token}
@@ -41,13 +41,20 @@ abbrev pub end_token : ℕ → ℕ → Token
 end_token file file_end =
     record { kind = kind.End; span = record { file = file; start = file_end; end = file_end }; text = no_name; value = pos 0; first_end = file_end; second_end = file_end }
 
--- The bytes are these tokens. The first name is the empty text, which tokens other than words have.
-pub record IsTokens (file : ℕ) (bytes : List ℕ) (tokens : Tokens) : Type 0 where
+-- The bytes are these tokens, with these names and texts. The first name is the empty text, which tokens other than words have.
+pub record HasTokens (file : ℕ) (bytes : List ℕ) (tokens : List Token) (names texts : List (List ℕ)) : Type 0 where
   pub characters : List Character
   pub decoded : Decodes bytes characters
   pub list : List Token
-  pub lexed : Lexes file (length bytes) ([] ∷ []) [] characters list tokens.names tokens.texts.items
-  pub ended : tokens.list.items ≡ list ++ end_token file (length bytes) ∷ []
+  pub lexed : Lexes file (length bytes) ([] ∷ []) [] characters list names texts
+  pub ended : tokens ≡ list ++ end_token file (length bytes) ∷ []
+
+-- The token's bytes are in the file.
+abbrev pub IsInside : ℕ → ℕ → Token → Type 0
+IsInside file file_end t = (t.span.file ≡ file) × (t.span.start ≤ t.span.end) × (t.span.end ≤ file_end)
+
+abbrev pub IsTokens : ℕ → List ℕ → Tokens → Type 0
+IsTokens file bytes tokens = HasTokens file bytes tokens.list.items tokens.names tokens.texts.items
 
 -- A byte that isn't UTF-8 comes before all other faults, then a malformed Unicode escape, then the first in reading order.
 pub data HasFault (file : ℕ) (bytes : List ℕ) : FaultKind → ℕ → ℕ → Type 0 where

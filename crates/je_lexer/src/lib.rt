@@ -11,6 +11,7 @@
 mod classes;
 mod cutting;
 mod fault;
+mod laws;
 mod lexing;
 mod numbers;
 mod pieces;
@@ -22,6 +23,7 @@ mod words;
 
 pub use fault::{FaultKind, LexFault};
 pub use je_token::{Keyword, Symbol, Token, TokenKind};
+pub use laws::{tokens_inside, tokens_or_fault};
 pub use lexing::Tokens;
 pub use reading::lex;
 
