@@ -18,9 +18,13 @@ fn letter(kind: TokenKind) -> char {
 
 #[test]
 fn gives_tokens(rt: HostRuntime) -> Result<(), Fail> {
-    let rows: [(&str, &str); 44] = [
+    let rows: [(&str, &str); 45] = [
         ("", "e0..0"),
         ("class A { }", "k0..5 i6..7 s8..9 s10..11 e11..11"),
+        (
+            "\\u0063lass A { static int x; }",
+            "k0..10 i11..12 s13..14 k15..21 k22..25 i26..27 s27..28 s29..30 e30..30",
+        ),
         ("x$_1", "i0..4 e4..4"),
         ("truely true", "i0..6 k7..11 e11..11"),
         (">>>=", "s0..4 e4..4"),
@@ -99,7 +103,7 @@ fn gives_tokens(rt: HostRuntime) -> Result<(), Fail> {
 
 #[test]
 fn gives_faults(rt: HostRuntime) -> Result<(), Fail> {
-    let rows: [(&[u8], FaultKind, u32, u32); 46] = [
+    let rows: [(&[u8], FaultKind, u32, u32); 47] = [
         (b"a\xff", FaultKind::NotUtf8, 1, 2),
         (b"\\u12 \xc3", FaultKind::NotUtf8, 5, 6),
         (b"'\xe2\x82", FaultKind::NotUtf8, 1, 2),
@@ -118,6 +122,7 @@ fn gives_faults(rt: HostRuntime) -> Result<(), Fail> {
         (b"/*/", FaultKind::OpenComment, 0, 3),
         (b"/* \x1a", FaultKind::OpenComment, 0, 4),
         (b"\"ab", FaultKind::OpenText, 0, 3),
+        (b"class A { String s = \"ab", FaultKind::OpenText, 21, 24),
         (b"\"a\\q", FaultKind::OpenText, 0, 4),
         (b"\"abc\\\nd\"", FaultKind::OpenText, 0, 5),
         (b"\"a\r\n\"", FaultKind::OpenText, 0, 2),
