@@ -18,7 +18,7 @@ fn letter(kind: TokenKind) -> char {
 
 #[test]
 fn gives_tokens(rt: HostRuntime) -> Result<(), Fail> {
-    let rows: [(&str, &str); 45] = [
+    let rows: [(&str, &str); 46] = [
         ("", "e0..0"),
         ("class A { }", "k0..5 i6..7 s8..9 s10..11 e11..11"),
         (
@@ -32,6 +32,14 @@ fn gives_tokens(rt: HostRuntime) -> Result<(), Fail> {
         ("a>>>b", "i0..1 s1..4 i4..5 e5..5"),
         ("a+++b", "i0..1 s1..3 s3..4 i4..5 e5..5"),
         ("....", "s0..3 s3..4 e4..4"),
+        (
+            "=== !== &&& ||| --- <<< <<== >>>> >>>>= *== %== ^== &== |== +== -== >>= >== <== .... ~= ?: @==",
+            "s0..2 s2..3 s4..6 s6..7 s8..10 s10..11 s12..14 s14..15 s16..18 s18..19 s20..22 s22..23 \
+             s24..27 s27..28 s29..32 s32..33 s34..37 s37..39 s40..42 s42..43 s44..46 s46..47 s48..50 \
+             s50..51 s52..54 s54..55 s56..58 s58..59 s60..62 s62..63 s64..66 s66..67 s68..71 s72..74 \
+             s74..75 s76..78 s78..79 s80..83 s83..84 s85..86 s86..87 s88..89 s89..90 s91..92 s92..94 \
+             e94..94",
+        ),
         ("..", "s0..1 s1..2 e2..2"),
         ("a.b", "i0..1 s1..2 i2..3 e3..3"),
         ("/", "s0..1 e1..1"),
@@ -103,7 +111,7 @@ fn gives_tokens(rt: HostRuntime) -> Result<(), Fail> {
 
 #[test]
 fn gives_faults(rt: HostRuntime) -> Result<(), Fail> {
-    let rows: [(&[u8], FaultKind, u32, u32); 47] = [
+    let rows: [(&[u8], FaultKind, u32, u32); 50] = [
         (b"a\xff", FaultKind::NotUtf8, 1, 2),
         (b"\\u12 \xc3", FaultKind::NotUtf8, 5, 6),
         (b"'\xe2\x82", FaultKind::NotUtf8, 1, 2),
@@ -127,11 +135,14 @@ fn gives_faults(rt: HostRuntime) -> Result<(), Fail> {
         (b"\"abc\\\nd\"", FaultKind::OpenText, 0, 5),
         (b"\"a\r\n\"", FaultKind::OpenText, 0, 2),
         (b"'a\n'", FaultKind::OpenText, 0, 2),
+        (b"\"a\r\"", FaultKind::OpenText, 0, 2),
+        (b"\"\\u000a\"", FaultKind::OpenText, 0, 1),
         (b"\"a\x1a", FaultKind::OpenText, 0, 3),
         (b"\"a\\q\"", FaultKind::BadEscape, 2, 3),
         (b"'ab\\q'", FaultKind::BadEscape, 3, 4),
         (b"\"\\8\"", FaultKind::BadEscape, 1, 2),
         (b"''", FaultKind::BadLiteral, 0, 2),
+        (b"'\\u0027'", FaultKind::BadLiteral, 0, 7),
         (b"'''", FaultKind::BadLiteral, 0, 2),
         (b"'ab'", FaultKind::BadLiteral, 0, 4),
         (b"'\xf0\x90\x90\x80'", FaultKind::BadLiteral, 0, 6),
@@ -161,6 +172,41 @@ fn gives_faults(rt: HostRuntime) -> Result<(), Fail> {
                 assert_eq!(rt; found, kind, "{start}..{end}");
                 assert_eq!(rt; span.start, start);
                 assert_eq!(rt; span.end, end);
+            }
+        }
+    }
+    Ok(())
+}
+
+#[test]
+fn reads_texts(rt: HostRuntime) -> Result<(), Fail> {
+    let rows: [(&str, &[u16]); 12] = [
+        ("\"\"", &[]),
+        ("\"ab\"", &[97, 98]),
+        (
+            "\"\\b\\t\\n\\f\\r\\\"\\'\\\\\"",
+            &[8, 9, 10, 12, 13, 34, 39, 92],
+        ),
+        ("\"\\0\"", &[0]),
+        ("\"\\377\"", &[255]),
+        ("\"\\400\"", &[32, 48]),
+        ("\"\\08\"", &[0, 56]),
+        ("\"a\\u0022", &[97]),
+        ("\"\\u005c\"\"", &[34]),
+        ("\"\u{10400}\"", &[0xD801, 0xDC00]),
+        ("\"\\ud801\\udc00\"", &[0xD801, 0xDC00]),
+        ("\"\\ud801\"", &[0xD801]),
+    ];
+    for (text, expected) in rows {
+        assert!(rt; text.len() <= 1_048_576);
+        match lex(rt.alloc(), 0, text.as_bytes()) {
+            Ok(tokens) => match tokens.texts.first() {
+                Some(units) => assert!(rt; units.as_slice() == expected, "{text}"),
+                None => return Err("no text")?,
+            },
+            Err(fault) => {
+                eprintln!(rt; "{text}: {fault:?}")?;
+                return Err("a fault")?;
             }
         }
     }
