@@ -4,3 +4,7 @@ pub mod HeightWithinSize
 pub mod UnitHeight
 pub mod RowViews
 pub mod VariantViews
+pub mod Went
+pub mod ListsWent
+pub mod VariantsSeen
+pub mod VariantsRenumbered

@@ -5,3 +5,5 @@ pub mod Height
 pub mod MemoryHeight
 pub mod Size
 pub mod Spans
+pub mod Renumbering
+pub mod Seen

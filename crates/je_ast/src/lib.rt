@@ -5,7 +5,8 @@
 //! which give the types of `specs/Trees.antt`. Over these stand `height`, `size` and `span_of` with their kin.
 //!
 //! A parser makes a tree without lists by its variant, whose view computes, and one with a list by its `make_` function,
-//! whose clause says the view. `height` is a unit's height.
+//! whose clause says the view. `height` is a unit's height, and `renumber` gives its names the numbers that they have among
+//! the names of all files.
 #![tactic(auto)]
 
 mod decl;
@@ -14,6 +15,7 @@ mod heights;
 mod making;
 mod name;
 mod operator;
+mod renumbering;
 mod stmt;
 mod ty_name;
 
@@ -28,6 +30,7 @@ pub use making::{
 };
 pub use name::{Identifier, Name};
 pub use operator::{BinaryOp, PostfixOp, PrefixOp};
+pub use renumbering::renumber;
 pub use stmt::{Block, Catch, ForInit, Group, Label, Stmt, Var};
 pub use ty_name::{Primitive, TyName};
 
