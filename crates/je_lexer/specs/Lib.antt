@@ -1,5 +1,6 @@
 pub mod Classes
 pub mod Cutting
+pub mod Elements
 pub mod Lexing
 pub mod Numbers
 pub mod Reading
