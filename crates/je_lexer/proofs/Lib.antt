@@ -1,5 +1,9 @@
 pub mod Apart
 pub mod Bodies
+pub mod ElementClasses
+pub mod ElementFound
+pub mod ElementLongest
+pub mod ElementSymbols
 pub mod Giving
 pub mod Inside
 pub mod Longest

@@ -1,6 +1,8 @@
 //! Laws of the definition.
 
-ghost use Rattle.std.specs.Prelude.{◌≡◌, ◌≤◌, ◌⊎◌, ℕ, List, Some, All, IsTrue, length, not};
+ghost use Rattle.std.specs.Prelude.{◌≡◌, ◌<◌, ◌≤◌, ◌⊎◌, ℕ, List, ◌∷◌, Some, All, IsTrue, length, take, not};
+ghost use Rattle.je_lexer.specs.Cutting.{cut_at, cut_len};
+ghost use Rattle.je_lexer.specs.Elements.{IsElement};
 ghost use Rattle.je_lexer.specs.Lexing.{HasTokens, HasFault, IsInside};
 ghost use Rattle.je_lexer.specs.declared.fault.FaultKind.{FaultKind as Kind};
 ghost use Rattle.je_decode.specs.declared.character.Character.{Character};
@@ -36,4 +38,10 @@ pub fn longest_runs()
     ensures words { (text : List Character) → IsLongestRun continues_name (name_run text) text }
     ensures spaces { (text : List Character) → IsLongestRun is_space (space_run text) text }
     ensures lines { (text : List Character) → IsLongestRun (λ code. not (ends_line code)) (line_run text) text }
+{}
+
+/// What is cut is white space, a comment or a token, and no longer front of the text is one.
+pub fn longest_piece()
+    ensures element { (file_end : ℕ) (c : Character) (cs : List Character) (n : ℕ) → cut_len (cut_at file_end c cs) ≡ Some n → IsElement (take n (c ∷ cs)) }
+    ensures longest { (file_end : ℕ) (c : Character) (cs : List Character) (n m : ℕ) → cut_len (cut_at file_end c cs) ≡ Some n → n < m → m ≤ length (c ∷ cs) → IsElement (take m (c ∷ cs)) → ⊥ }
 {}
