@@ -3,6 +3,7 @@ pub mod Bodies
 pub mod ElementClasses
 pub mod ElementFound
 pub mod ElementLongest
+pub mod ElementRows
 pub mod ElementSymbols
 pub mod Giving
 pub mod Inside
