@@ -16,7 +16,7 @@ use Rattle.je_lexer.specs.declared.cutting.Cut.{Cut}
 use Rattle.je_lexer.specs.declared.cutting.Cut.TheVariants as cut
 use Rattle.je_lexer.specs.declared.fault.FaultKind.TheVariants as kind
 use Rattle.je_lexer.specs.declared.numbers.Number.{Number}
-use Rattle.je_lexer.proofs.Longest.{longest_fits, longest_name, longest_space, longest_line}
+use Rattle.je_lexer.proofs.Longest.{longest_fits, names_pass, spaces_pass, lines_pass}
 
 -- The characters that are cut, if any, are an input element.
 pub record IsFront (text : List Character) (k : Cut) : Type 0 where
@@ -33,10 +33,10 @@ bad_number_front text c cs = record { element = tt }
 -- ---- white space and words
 
 space_front : (c : Character) (cs : List Character) → is_space c.code ≡ true → IsFront (c ∷ cs) (cut.Blank (suc (space_run cs)))
-space_front c cs e = record { element = IsElement.white_space (All-cons (λ d. is_space d.code ≡ true) c (take (space_run cs) cs) e (longest_space cs).0) }
+space_front c cs e = record { element = IsElement.white_space (All-cons (λ d. is_space d.code ≡ true) c (take (space_run cs) cs) e (spaces_pass cs)) }
 
 word_front : (c : Character) (cs : List Character) → starts_name c.code ≡ true → IsFront (c ∷ cs) (cut.Word (suc (name_run cs)))
-word_front c cs e = record { element = IsElement.word e (longest_name cs).0 }
+word_front c cs e = record { element = IsElement.word e (names_pass cs) }
 
 -- ---- integers
 
@@ -97,7 +97,7 @@ comment_front file_end c d cs slash star =
 line_front : (c d : Character) (cs : List Character) → c.code ≡ 47 → d.code ≡ 47 → IsFront (c ∷ d ∷ cs) (cut.Blank (suc (line_run (d ∷ cs))))
 line_front c d cs first second =
     let size : line_run (d ∷ cs) ≡ suc (line_run cs) = rw second refl in
-    let whole : IsElement (c ∷ d ∷ take (line_run cs) cs) = IsElement.line_comment first second (λ k e l. not-true _ ((longest_line cs).0 k e l)) in
+    let whole : IsElement (c ∷ d ∷ take (line_run cs) cs) = IsElement.line_comment first second (λ k e l. not-true _ ((lines_pass cs) k e l)) in
     record { element = rw size whole }
 
 -- ---- character and string literals

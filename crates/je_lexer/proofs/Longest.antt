@@ -1,4 +1,4 @@
--- A piece is the longest that begins there.
+-- The sign at the front of a text is the longest, and the characters of a run are all of its kind.
 use Rattle.std.proofs.Common.{◌≡◌, ℕ, suc, ◌≤◌, Bool, true, false, not, ◌&&◌, nat_lt, List, [], ◌∷◌, length, take, Option, Some, None, if◌then◌else◌, All, refl, subst, arith}
 use Rattle.std.specs.Option.{IfSome}
 use Rattle.std.proofs.lemmas.Bool.Decides.{nat_tests}
@@ -7,7 +7,7 @@ use Rattle.je_decode.specs.declared.character.Character.{Character}
 use Rattle.je_token.specs.Texts.{symbol_text}
 use Rattle.je_token.specs.declared.symbol.Symbol.{Symbol}
 use Rattle.je_lexer.specs.Classes.{is_space, ends_line, continues_name}
-use Rattle.je_lexer.specs.Runs.{name_run, space_run, line_run, IsLongestRun}
+use Rattle.je_lexer.specs.Runs.{name_run, space_run, line_run}
 use Rattle.je_lexer.specs.Words.{fits, symbol_len, longer, longest, all_symbols, symbol_at}
 
 module _ (text : List Character) where
@@ -56,19 +56,19 @@ unfolding symbol_at
 longest_covers text = all_covered text None all_symbols
 
 module _ (passes : ℕ → Bool) (run : List Character → ℕ) (none : run [] ≡ 0) (some : (c : Character) (cs : List Character) → run (c ∷ cs) ≡ (if passes c.code then suc (run cs) else 0)) where
-  longest_run : (text : List Character) → IsLongestRun passes (run text) text
-  longest_run [] = rw none (All-nil (λ c. passes c.code ≡ true), λ c rest e. absurd (cc))
-  longest_run (c ∷ cs) = rw (some c cs) (by (passes c.code) refl (longest_run cs))
+  run_passes : (text : List Character) → All (λ c. passes c.code ≡ true) (take (run text) text)
+  run_passes [] = rw none (All-nil (λ c. passes c.code ≡ true))
+  run_passes (c ∷ cs) = rw (some c cs) (by (passes c.code) refl (run_passes cs))
     where
-      by : (b : Bool) → passes c.code ≡ b → IsLongestRun passes (run cs) cs → IsLongestRun passes (if b then suc (run cs) else 0) (c ∷ cs)
-      by true e h = (All-cons (λ d. passes d.code ≡ true) c (take (run cs) cs) e h.0, h.1)
-      by false e h = (All-nil (λ d. passes d.code ≡ true), λ d rest same. let first : c ≡ d = cc in rw (← first) e)
+      by : (b : Bool) → passes c.code ≡ b → All (λ d. passes d.code ≡ true) (take (run cs) cs) → All (λ d. passes d.code ≡ true) (take (if b then suc (run cs) else 0) (c ∷ cs))
+      by true e h = All-cons (λ d. passes d.code ≡ true) c (take (run cs) cs) e h
+      by false e h = All-nil (λ d. passes d.code ≡ true)
 
-pub longest_name : (text : List Character) → IsLongestRun continues_name (name_run text) text
-longest_name = longest_run continues_name name_run refl (λ c cs. refl)
+pub names_pass : (text : List Character) → All (λ c. continues_name c.code ≡ true) (take (name_run text) text)
+names_pass = run_passes continues_name name_run refl (λ c cs. refl)
 
-pub longest_space : (text : List Character) → IsLongestRun is_space (space_run text) text
-longest_space = longest_run is_space space_run refl (λ c cs. refl)
+pub spaces_pass : (text : List Character) → All (λ c. is_space c.code ≡ true) (take (space_run text) text)
+spaces_pass = run_passes is_space space_run refl (λ c cs. refl)
 
 line_cons : (c : Character) (cs : List Character) → line_run (c ∷ cs) ≡ (if not (ends_line c.code) then suc (line_run cs) else 0)
 line_cons c cs = by (ends_line c.code)
@@ -77,5 +77,5 @@ line_cons c cs = by (ends_line c.code)
     by true = refl
     by false = refl
 
-pub longest_line : (text : List Character) → IsLongestRun (λ code. not (ends_line code)) (line_run text) text
-longest_line = longest_run (λ code. not (ends_line code)) line_run refl line_cons
+pub lines_pass : (text : List Character) → All (λ c. not (ends_line c.code) ≡ true) (take (line_run text) text)
+lines_pass = run_passes (λ code. not (ends_line code)) line_run refl line_cons

@@ -1,5 +1,5 @@
 -- How many characters stand at the front of a text: white space, a name, a comment's body, and so on.
-use Rattle.std.specs.Prelude.{◌≡◌, ℕ, suc, Bool, true, false, All, take, drop, not, ◌&&◌, ◌||◌, ◌==◌, List, [], ◌∷◌, if◌then◌else◌}
+use Rattle.std.specs.Prelude.{ℕ, suc, Bool, not, ◌&&◌, ◌||◌, ◌==◌, List, [], ◌∷◌, if◌then◌else◌}
 use Rattle.je_decode.specs.declared.character.Character.{Character}
 use Rattle.je_lexer.specs.Classes.{is_space, ends_line, continues_name, is_digit_below, begins_with}
 
@@ -35,7 +35,3 @@ abbrev pub literal_run : ℕ → Bool → List Character → ℕ
 literal_run quote escaped [] = 0
 literal_run quote escaped (c ∷ cs) =
     if ends_line c.code || (not escaped && (c.code == quote)) then 0 else suc (literal_run quote (not escaped && (c.code == 92)) cs)
-
--- so many characters pass the test, and the next doesn't
-abbrev pub IsLongestRun : (ℕ → Bool) → ℕ → List Character → Type 0
-IsLongestRun passes n text = All (λ c. passes c.code ≡ true) (take n text) × ((c : Character) (rest : List Character) → drop n text ≡ c ∷ rest → passes c.code ≡ false)
