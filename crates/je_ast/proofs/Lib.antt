@@ -1,7 +1,4 @@
-pub mod ListHeights
-pub mod VariantHeights
 pub mod HeightWithinSize
-pub mod UnitHeight
 pub mod RowViews
 pub mod VariantViews
 pub mod Went

@@ -258,10 +258,16 @@ pub declaration_seen-Enum : (ms : Vec Modifier Global) (n : Identifier) (cs : Ve
 unfolding type_seen expression_seen start_seen statement_seen first_call_seen member_seen declaration_seen
 declaration_seen-Enum ms n cs s = refl
 
-pub ruleset type_leaves = (type_seen-Primitive)
+pub ruleset types_seen = (type_seen-Primitive, type_seen-Class)
 
-pub ruleset expression_leaves = (expression_seen-Literal, expression_seen-This)
+pub ruleset expressions_seen = (expression_seen-Literal, expression_seen-Name, expression_seen-This, expression_seen-OuterThis, expression_seen-Brackets, expression_seen-Select, expression_seen-SuperSelect, expression_seen-Call, expression_seen-CallOn, expression_seen-SuperCall, expression_seen-Index, expression_seen-New, expression_seen-NewAnonymous, expression_seen-NewArray, expression_seen-NewArrayOf, expression_seen-ArrayInit, expression_seen-Cast, expression_seen-Prefix, expression_seen-Postfix, expression_seen-Binary, expression_seen-InstanceOf, expression_seen-Conditional, expression_seen-Assign)
 
-pub ruleset statement_leaves = (statement_seen-Empty)
+pub ruleset starts_seen = (start_seen-Locals, start_seen-Steps)
 
-pub ruleset first_call_leaves = (first_call_seen-Implicit)
+pub ruleset statements_seen = (statement_seen-Block, statement_seen-Local, statement_seen-Class, statement_seen-Empty, statement_seen-Labelled, statement_seen-If, statement_seen-IfElse, statement_seen-While, statement_seen-Do, statement_seen-For, statement_seen-ForEach, statement_seen-Switch, statement_seen-Break, statement_seen-Continue, statement_seen-Return, statement_seen-Throw, statement_seen-Try, statement_seen-TryFinally, statement_seen-Step)
+
+pub ruleset first_calls_seen = (first_call_seen-Implicit, first_call_seen-Explicit)
+
+pub ruleset members_seen = (member_seen-Type, member_seen-Field, member_seen-Method, member_seen-Constructor, member_seen-Initializer)
+
+pub ruleset declarations_seen = (declaration_seen-Class, declaration_seen-Interface, declaration_seen-Enum)

@@ -1,10 +1,11 @@
 // How high a tree is. The walks stop counting at the greatest u32, so that they ask nothing of the tree.
 
-ghost use Rattle.std.specs.Prelude.{◌≡◌, ◌+◌, ◌<◌, ◌^◌, min};
-ghost use Rattle.je_ast.specs.View.{unit_view};
-ghost use Rattle.je_ast.specs.Height.{unit_height};
+ghost use Rattle.std.specs.Prelude.{◌≡◌, suc, ◌+◌, ◌<◌, ◌^◌, min, map};
+ghost use Rattle.je_ast.specs.Types.{types_of, type_if, parameter_of, formal_of, type_height as the_type_height, types_height as the_types_height};
+ghost use Rattle.je_ast.specs.View.{views_of, view_of_option, variable_views_of, statement_views_of, label_views_of, group_views_of, catch_views_of, member_views_of, declaration_view, unit_view};
+ghost use Rattle.je_ast.specs.Seen.{type_seen, expression_seen, start_seen, statement_seen, first_call_seen, member_seen, declaration_seen};
+ghost use Rattle.je_ast.specs.Height.{type_height_if, parameters_height, formals_height as the_formals_height, height as the_height, heights, height_if, variables_height, start_height, statement_height, statements_height, labels_height as the_labels_height, groups_height as the_groups_height, catches_height as the_catches_height, first_call_height, member_height as the_member_height, members_height as the_members_height, declaration_height, unit_height};
 ghost use Rattle.je_ast.specs.Size.{unit_size};
-ghost use Rattle.je_ast.specs.MemoryHeight.{type_height_of, types_height_of, option_type_height_of, parameters_height_of, formals_height_of, height_of, heights_of, option_height_of, variables_height_of, start_height_of, statement_height_of, statements_height_of, block_height_of, option_block_height_of, labels_height_of, groups_height_of, catches_height_of, first_call_height_of, member_height_of, members_height_of, declaration_height_of, declarations_height_of};
 
 use crate::decl::{ConstructorCall, Decl, Formal, Member, TypeParam, Unit};
 use crate::expr::Expr;
@@ -19,9 +20,9 @@ fn above(parts: u32) -> u32
 }
 
 #[cycle(types)]
-#[tactic(auto, using(crate::proofs::VariantHeights::type_heights))]
+#[tactic(auto, using(crate::proofs::VariantsSeen::types_seen))]
 fn type_height(ty: &TyName) -> u32
-    ensures { result ≡ min (type_height_of ty.now) u32.MAX }
+    ensures { result ≡ min (the_type_height (type_seen ty.now)) u32.MAX }
 {
     match ty {
         TyName::Primitive { .. } => 1,
@@ -30,8 +31,9 @@ fn type_height(ty: &TyName) -> u32
 }
 
 #[cycle(types)]
+#[tactic(auto, unfolding(crate::specs::Seen::type_seen))]
 fn types_height(list: &[TyName]) -> u32
-    ensures { result ≡ min (types_height_of list.now) u32.MAX }
+    ensures { result ≡ min (the_types_height (types_of list.now)) u32.MAX }
 {
     let mut most = 0;
     for ty in list {
@@ -40,8 +42,9 @@ fn types_height(list: &[TyName]) -> u32
     most
 }
 
+#[tactic(auto, unfolding(crate::specs::Seen::type_seen))]
 fn option_type_height(ty: &Option<TyName>) -> u32
-    ensures { result ≡ min (option_type_height_of ty.now) u32.MAX }
+    ensures { result ≡ min (type_height_if (type_if ty.now)) u32.MAX }
 {
     match ty {
         Some(ty) => type_height(ty),
@@ -50,7 +53,7 @@ fn option_type_height(ty: &Option<TyName>) -> u32
 }
 
 fn params_height(list: &[TypeParam]) -> u32
-    ensures { result ≡ min (parameters_height_of list.now) u32.MAX }
+    ensures { result ≡ min (parameters_height (map parameter_of list.now)) u32.MAX }
 {
     let mut most = 0;
     for param in list {
@@ -59,8 +62,9 @@ fn params_height(list: &[TypeParam]) -> u32
     most
 }
 
+#[tactic(auto, unfolding(crate::specs::Seen::type_seen))]
 fn formals_height(list: &[Formal]) -> u32
-    ensures { result ≡ min (formals_height_of list.now) u32.MAX }
+    ensures { result ≡ min (the_formals_height (map formal_of list.now)) u32.MAX }
 {
     let mut most = 0;
     for formal in list {
@@ -70,9 +74,9 @@ fn formals_height(list: &[Formal]) -> u32
 }
 
 #[cycle(height)]
-#[tactic(auto, using(crate::proofs::VariantHeights::expression_heights))]
+#[tactic(auto, using(crate::proofs::VariantsSeen::expressions_seen))]
 fn expr_height(expr: &Expr) -> u32
-    ensures { result ≡ min (height_of expr.now) u32.MAX }
+    ensures { result ≡ min (the_height (expression_seen expr.now)) u32.MAX }
 {
     let parts = match expr {
         Expr::Literal { .. }
@@ -124,8 +128,9 @@ fn expr_height(expr: &Expr) -> u32
 }
 
 #[cycle(height)]
+#[tactic(auto, unfolding(crate::specs::Seen::expression_seen))]
 fn exprs_height(list: &[Expr]) -> u32
-    ensures { result ≡ min (heights_of list.now) u32.MAX }
+    ensures { result ≡ min (heights (views_of list.now)) u32.MAX }
 {
     let mut most = 0;
     for expr in list {
@@ -135,8 +140,9 @@ fn exprs_height(list: &[Expr]) -> u32
 }
 
 #[cycle(height)]
+#[tactic(auto, unfolding(crate::specs::Seen::expression_seen))]
 fn vars_height(list: &[Var]) -> u32
-    ensures { result ≡ min (variables_height_of list.now) u32.MAX }
+    ensures { result ≡ min (variables_height (variable_views_of list.now)) u32.MAX }
 {
     let mut most = 0;
     for var in list {
@@ -148,9 +154,9 @@ fn vars_height(list: &[Var]) -> u32
 }
 
 #[cycle(height)]
-#[tactic(auto, using(crate::proofs::VariantHeights::start_heights))]
+#[tactic(auto, using(crate::proofs::VariantsSeen::starts_seen))]
 fn for_init_height(init: &ForInit) -> u32
-    ensures { result ≡ min (start_height_of init.now) u32.MAX }
+    ensures { result ≡ min (start_height (start_seen init.now)) u32.MAX }
 {
     match init {
         ForInit::Locals { ty, vars, .. } => type_height(ty).max(vars_height(vars)),
@@ -159,8 +165,9 @@ fn for_init_height(init: &ForInit) -> u32
 }
 
 #[cycle(height)]
+#[tactic(auto, unfolding(crate::specs::Seen::expression_seen))]
 fn option_expr_height(expr: &Option<Expr>) -> u32
-    ensures { result ≡ min (option_height_of expr.now) u32.MAX }
+    ensures { result ≡ min (height_if (view_of_option expr.now)) u32.MAX }
 {
     match expr {
         Some(expr) => expr_height(expr),
@@ -169,9 +176,9 @@ fn option_expr_height(expr: &Option<Expr>) -> u32
 }
 
 #[cycle(height)]
-#[tactic(auto, using(crate::proofs::VariantHeights::statement_heights))]
+#[tactic(auto, using(crate::proofs::VariantsSeen::statements_seen))]
 fn stmt_height(stmt: &Stmt) -> u32
-    ensures { result ≡ min (statement_height_of stmt.now) u32.MAX }
+    ensures { result ≡ min (statement_height (statement_seen stmt.now)) u32.MAX }
 {
     match stmt {
         Stmt::Class { decl } => decl_height(decl),
@@ -249,14 +256,15 @@ fn stmt_height(stmt: &Stmt) -> u32
 
 #[cycle(height)]
 fn block_height(block: &Block) -> u32
-    ensures { result ≡ min (block_height_of block.now) u32.MAX }
+    ensures { result ≡ min (suc (statements_height (statement_views_of block.now.stmts.items))) u32.MAX }
 {
     stmts_height(&block.stmts).saturating_add(1)
 }
 
 #[cycle(height)]
+#[tactic(auto, unfolding(crate::specs::Seen::statement_seen))]
 fn stmts_height(list: &[Stmt]) -> u32
-    ensures { result ≡ min (statements_height_of list.now) u32.MAX }
+    ensures { result ≡ min (statements_height (statement_views_of list.now)) u32.MAX }
 {
     let mut most = 0;
     for stmt in list {
@@ -266,8 +274,9 @@ fn stmts_height(list: &[Stmt]) -> u32
 }
 
 #[cycle(height)]
+#[tactic(auto, unfolding(crate::specs::Seen::expression_seen))]
 fn labels_height(list: &[Label]) -> u32
-    ensures { result ≡ min (labels_height_of list.now) u32.MAX }
+    ensures { result ≡ min (the_labels_height (label_views_of list.now)) u32.MAX }
 {
     let mut most = 0;
     for label in list {
@@ -280,7 +289,7 @@ fn labels_height(list: &[Label]) -> u32
 
 #[cycle(height)]
 fn groups_height(list: &[Group]) -> u32
-    ensures { result ≡ min (groups_height_of list.now) u32.MAX }
+    ensures { result ≡ min (the_groups_height (group_views_of list.now)) u32.MAX }
 {
     let mut most = 0;
     for group in list {
@@ -291,7 +300,7 @@ fn groups_height(list: &[Group]) -> u32
 
 #[cycle(height)]
 fn catches_height(list: &[Catch]) -> u32
-    ensures { result ≡ min (catches_height_of list.now) u32.MAX }
+    ensures { result ≡ min (the_catches_height (catch_views_of list.now)) u32.MAX }
 {
     let mut most = 0;
     for catch in list {
@@ -301,9 +310,9 @@ fn catches_height(list: &[Catch]) -> u32
 }
 
 #[cycle(height)]
-#[tactic(auto, using(crate::proofs::VariantHeights::first_call_heights))]
+#[tactic(auto, using(crate::proofs::VariantsSeen::first_calls_seen))]
 fn call_height(call: &ConstructorCall) -> u32
-    ensures { result ≡ min (first_call_height_of call.now) u32.MAX }
+    ensures { result ≡ min (first_call_height (first_call_seen call.now)) u32.MAX }
 {
     match call {
         ConstructorCall::Implicit => 0,
@@ -312,9 +321,9 @@ fn call_height(call: &ConstructorCall) -> u32
 }
 
 #[cycle(height)]
-#[tactic(auto, using(crate::proofs::VariantHeights::member_heights))]
+#[tactic(auto, using(crate::proofs::VariantsSeen::members_seen))]
 fn member_height(member: &Member) -> u32
-    ensures { result ≡ min (member_height_of member.now) u32.MAX }
+    ensures { result ≡ min (the_member_height (member_seen member.now)) u32.MAX }
 {
     let parts = match member {
         Member::Type { decl } => return decl_height(decl),
@@ -349,8 +358,9 @@ fn member_height(member: &Member) -> u32
 }
 
 #[cycle(height)]
+#[tactic(auto, unfolding(crate::specs::Seen::member_seen))]
 fn members_height(list: &[Member]) -> u32
-    ensures { result ≡ min (members_height_of list.now) u32.MAX }
+    ensures { result ≡ min (the_members_height (member_views_of list.now)) u32.MAX }
 {
     let mut most = 0;
     for member in list {
@@ -360,9 +370,9 @@ fn members_height(list: &[Member]) -> u32
 }
 
 #[cycle(height)]
-#[tactic(auto, using(crate::proofs::VariantHeights::declaration_heights))]
+#[tactic(auto, using(crate::proofs::VariantsSeen::declarations_seen))]
 fn decl_height(decl: &Decl) -> u32
-    ensures { result ≡ min (declaration_height_of decl.now) u32.MAX }
+    ensures { result ≡ min (declaration_height (declaration_seen decl.now)) u32.MAX }
 {
     let parts = match decl {
         Decl::Class {
@@ -390,8 +400,9 @@ fn decl_height(decl: &Decl) -> u32
     parts.saturating_add(1)
 }
 
+#[tactic(auto, unfolding(crate::specs::Seen::declaration_seen))]
 fn decls_height(list: &[Decl]) -> u32
-    ensures { result ≡ min (declarations_height_of list.now) u32.MAX }
+    ensures { result ≡ min (unit_height (map declaration_view list.now)) u32.MAX }
 {
     let mut most = 0;
     for decl in list {
@@ -402,7 +413,7 @@ fn decls_height(list: &[Decl]) -> u32
 
 /// The height of a unit: how many members, written types, statements and expressions, each operator, call, cast, bracket
 /// pair, selection, creation, name and literal being one, stand above each other on its longest path.
-#[tactic(auto, using(crate::proofs::UnitHeight::bounded_height))]
+#[tactic(auto, using(crate::proofs::HeightWithinSize::bounded_height))]
 pub fn height(unit: &Unit) -> u32
     requires { unit_size (unit_view unit.now).declarations < 2 ^ 32 }
     ensures { result ≡ unit_height (unit_view unit.now).declarations }

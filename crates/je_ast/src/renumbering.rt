@@ -54,7 +54,7 @@ fn renumber_names(list: &mut [Name], to: &[NameId])
 }
 
 #[cycle(types)]
-#[tactic(auto, using(crate::proofs::VariantsSeen::type_leaves))]
+#[tactic(auto, using(crate::proofs::VariantsSeen::types_seen))]
 fn renumber_type(ty: &mut TyName, to: &[NameId])
     ensures { type_seen ty.new ≡ renumbered_type to.now (type_seen ty.old) }
 {
@@ -104,7 +104,7 @@ fn renumber_formals(list: &mut [Formal], to: &[NameId])
 }
 
 #[cycle(trees)]
-#[tactic(auto, using(crate::proofs::VariantsSeen::expression_leaves))]
+#[tactic(auto, using(crate::proofs::VariantsSeen::expressions_seen))]
 fn renumber_expr(expr: &mut Expr, to: &[NameId])
     ensures { expression_seen expr.new ≡ renumbered_expression to.now (expression_seen expr.old) }
 {
@@ -243,7 +243,7 @@ fn renumber_for_init(init: &mut ForInit, to: &[NameId])
 }
 
 #[cycle(trees)]
-#[tactic(auto, using(crate::proofs::VariantsSeen::statement_leaves))]
+#[tactic(auto, using(crate::proofs::VariantsSeen::statements_seen))]
 fn renumber_stmt(stmt: &mut Stmt, to: &[NameId])
     ensures { statement_seen stmt.new ≡ renumbered_statement to.now (statement_seen stmt.old) }
 {
@@ -405,7 +405,7 @@ fn renumber_catches(list: &mut [Catch], to: &[NameId])
 }
 
 #[cycle(trees)]
-#[tactic(auto, using(crate::proofs::VariantsSeen::first_call_leaves))]
+#[tactic(auto, using(crate::proofs::VariantsSeen::first_calls_seen))]
 fn renumber_call(call: &mut ConstructorCall, to: &[NameId])
     ensures { first_call_seen call.new ≡ renumbered_first_call to.now (first_call_seen call.old) }
 {
