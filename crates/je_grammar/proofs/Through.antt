@@ -100,7 +100,7 @@ pub through-SpellsExtendsAll : {end : ℕ} {es : Writtens} {ts mid rest : List T
 through-SpellsExtendsAll extends_nothing x = x
 through-SpellsExtendsAll (extends_all _ d1) x = behind_token (through-SpellsRefs d1 x)
 
-module _ (names : List (List ℕ)) where
+module _ (names texts : List (List ℕ)) where
   pub through-SpellsModifier : {end : ℕ} {m : Modifier} {ts mid rest : List Token} → SpellsModifier names m ts mid → Ends end mid rest → Ends end ts rest
   through-SpellsModifier (override_modifier _ _ _) x = behind_token (behind_token x)
   through-SpellsModifier (word_modifier _ _) x = behind_token x
@@ -110,7 +110,7 @@ module _ (names : List (List ℕ)) where
   through-SpellsModifiers (more_modifiers d0 d1) x = through-SpellsModifier d0 (through-SpellsModifiers d1 x)
 
   mutual
-    pub through-Spells : {end : ℕ} {e : Expression} {ts mid rest : List Token} → Spells names e ts mid → Ends end mid rest → Ends end ts rest
+    pub through-Spells : {end : ℕ} {e : Expression} {ts mid rest : List Token} → Spells names texts e ts mid → Ends end mid rest → Ends end ts rest
     through-Spells (is_literal _) x = behind_token x
     through-Spells (is_simple_name _) x = behind_token x
     through-Spells (is_this _) x = behind_token x
@@ -135,60 +135,60 @@ module _ (names : List (List ℕ)) where
     through-Spells (is_conditional _ _ d2 _ d4 _ d6) x = through-Spells d2 (behind_token (through-Spells d4 (behind_token (through-Spells d6 x))))
     through-Spells (is_assign _ d1 _ _ d4) x = through-Spells d1 (behind_token (through-Spells d4 x))
 
-    pub through-SpellsArguments : {end : ℕ} {es : Expressions} {c : Span} {ts mid rest : List Token} → SpellsArguments names es c ts mid → Ends end mid rest → Ends end ts rest
+    pub through-SpellsArguments : {end : ℕ} {es : Expressions} {c : Span} {ts mid rest : List Token} → SpellsArguments names texts es c ts mid → Ends end mid rest → Ends end ts rest
     through-SpellsArguments (no_arguments _ _) x = behind_token (behind_token x)
     through-SpellsArguments (some_arguments _ d1 _) x = behind_token (through-SpellsList d1 (behind_token x))
 
-    pub through-SpellsList : {end : ℕ} {es : Expressions} {ts mid rest : List Token} → SpellsList names es ts mid → Ends end mid rest → Ends end ts rest
+    pub through-SpellsList : {end : ℕ} {es : Expressions} {ts mid rest : List Token} → SpellsList names texts es ts mid → Ends end mid rest → Ends end ts rest
     through-SpellsList (last_expression d0) x = through-Spells d0 x
     through-SpellsList (more_expressions d0 _ d2) x = through-Spells d0 (behind_token (through-SpellsList d2 x))
 
-    pub through-SpellsLengths : {end : ℕ} {es : Expressions} {s : Span} {ts mid rest : List Token} → SpellsLengths names es s ts mid → Ends end mid rest → Ends end ts rest
+    pub through-SpellsLengths : {end : ℕ} {es : Expressions} {s : Span} {ts mid rest : List Token} → SpellsLengths names texts es s ts mid → Ends end mid rest → Ends end ts rest
     through-SpellsLengths (last_length _ d1 _) x = behind_token (through-Spells d1 (behind_token x))
     through-SpellsLengths (more_lengths _ d1 _ d3) x = behind_token (through-Spells d1 (behind_token (through-SpellsLengths d3 x)))
 
-    pub through-SpellsInit : {end : ℕ} {e : Expression} {ts mid rest : List Token} → SpellsInit names e ts mid → Ends end mid rest → Ends end ts rest
+    pub through-SpellsInit : {end : ℕ} {e : Expression} {ts mid rest : List Token} → SpellsInit names texts e ts mid → Ends end mid rest → Ends end ts rest
     through-SpellsInit (expression_init d0) x = through-Spells d0 x
     through-SpellsInit (array_init d0) x = through-SpellsArrayInit d0 x
 
-    pub through-SpellsArrayInit : {end : ℕ} {e : Expression} {ts mid rest : List Token} → SpellsArrayInit names e ts mid → Ends end mid rest → Ends end ts rest
+    pub through-SpellsArrayInit : {end : ℕ} {e : Expression} {ts mid rest : List Token} → SpellsArrayInit names texts e ts mid → Ends end mid rest → Ends end ts rest
     through-SpellsArrayInit (is_array_init _ d1) x = behind_token (through-SpellsInits d1 x)
 
-    pub through-SpellsInits : {end : ℕ} {es : Expressions} {c : Span} {ts mid rest : List Token} → SpellsInits names es c ts mid → Ends end mid rest → Ends end ts rest
+    pub through-SpellsInits : {end : ℕ} {es : Expressions} {c : Span} {ts mid rest : List Token} → SpellsInits names texts es c ts mid → Ends end mid rest → Ends end ts rest
     through-SpellsInits (no_inits _) x = behind_token x
     through-SpellsInits (comma_alone _ _) x = behind_token (behind_token x)
     through-SpellsInits (some_inits d0) x = through-SpellsMoreInits d0 x
 
-    pub through-SpellsMoreInits : {end : ℕ} {es : Expressions} {c : Span} {ts mid rest : List Token} → SpellsMoreInits names es c ts mid → Ends end mid rest → Ends end ts rest
+    pub through-SpellsMoreInits : {end : ℕ} {es : Expressions} {c : Span} {ts mid rest : List Token} → SpellsMoreInits names texts es c ts mid → Ends end mid rest → Ends end ts rest
     through-SpellsMoreInits (last_init d0 _) x = through-SpellsInit d0 (behind_token x)
     through-SpellsMoreInits (last_init_and_comma d0 _ _) x = through-SpellsInit d0 (behind_token (behind_token x))
     through-SpellsMoreInits (more_inits d0 _ d2) x = through-SpellsInit d0 (behind_token (through-SpellsMoreInits d2 x))
 
-    pub through-SpellsVariables : {end : ℕ} {vs : Variables} {ts mid rest : List Token} → SpellsVariables names vs ts mid → Ends end mid rest → Ends end ts rest
+    pub through-SpellsVariables : {end : ℕ} {vs : Variables} {ts mid rest : List Token} → SpellsVariables names texts vs ts mid → Ends end mid rest → Ends end ts rest
     through-SpellsVariables (last_variable _ d1 d2) x = behind_token (through-SpellsDims d1 (through-SpellsMaybeInit d2 x))
     through-SpellsVariables (more_variables _ d1 d2 _ d4) x = behind_token (through-SpellsDims d1 (through-SpellsMaybeInit d2 (behind_token (through-SpellsVariables d4 x))))
 
-    pub through-SpellsMaybeInit : {end : ℕ} {e : MaybeExpression} {ts mid rest : List Token} → SpellsMaybeInit names e ts mid → Ends end mid rest → Ends end ts rest
+    pub through-SpellsMaybeInit : {end : ℕ} {e : MaybeExpression} {ts mid rest : List Token} → SpellsMaybeInit names texts e ts mid → Ends end mid rest → Ends end ts rest
     through-SpellsMaybeInit without_init x = x
     through-SpellsMaybeInit (with_init _ d1) x = behind_token (through-SpellsInit d1 x)
 
-    pub through-SpellsMaybe : {end : ℕ} {e : MaybeExpression} {ts mid rest : List Token} → SpellsMaybe names e ts mid → Ends end mid rest → Ends end ts rest
+    pub through-SpellsMaybe : {end : ℕ} {e : MaybeExpression} {ts mid rest : List Token} → SpellsMaybe names texts e ts mid → Ends end mid rest → Ends end ts rest
     through-SpellsMaybe nothing x = x
     through-SpellsMaybe (something d0) x = through-Spells d0 x
 
-    pub through-SpellsSteps : {end : ℕ} {es : Expressions} {ts mid rest : List Token} → SpellsSteps names es ts mid → Ends end mid rest → Ends end ts rest
+    pub through-SpellsSteps : {end : ℕ} {es : Expressions} {ts mid rest : List Token} → SpellsSteps names texts es ts mid → Ends end mid rest → Ends end ts rest
     through-SpellsSteps (last_step _ d1) x = through-Spells d1 x
     through-SpellsSteps (more_steps _ d1 _ d3) x = through-Spells d1 (behind_token (through-SpellsSteps d3 x))
 
-    pub through-SpellsMaybeSteps : {end : ℕ} {es : Expressions} {ts mid rest : List Token} → SpellsMaybeSteps names es ts mid → Ends end mid rest → Ends end ts rest
+    pub through-SpellsMaybeSteps : {end : ℕ} {es : Expressions} {ts mid rest : List Token} → SpellsMaybeSteps names texts es ts mid → Ends end mid rest → Ends end ts rest
     through-SpellsMaybeSteps no_steps x = x
     through-SpellsMaybeSteps (some_steps d0) x = through-SpellsSteps d0 x
 
-    pub through-SpellsForStart : {end : ℕ} {i : ForStart} {ts mid rest : List Token} → SpellsForStart names i ts mid → Ends end mid rest → Ends end ts rest
+    pub through-SpellsForStart : {end : ℕ} {i : ForStart} {ts mid rest : List Token} → SpellsForStart names texts i ts mid → Ends end mid rest → Ends end ts rest
     through-SpellsForStart (start_locals d0 d1 d2) x = through-SpellsFinal d0 (through-SpellsType d1 (through-SpellsVariables d2 x))
     through-SpellsForStart (start_steps d0) x = through-SpellsMaybeSteps d0 x
 
-    pub through-SpellsStatement : {end : ℕ} {b : Statement} {ts mid rest : List Token} → SpellsStatement names b ts mid → Ends end mid rest → Ends end ts rest
+    pub through-SpellsStatement : {end : ℕ} {b : Statement} {ts mid rest : List Token} → SpellsStatement names texts b ts mid → Ends end mid rest → Ends end ts rest
     through-SpellsStatement (is_block _ d1) x = behind_token (through-SpellsBlock d1 x)
     through-SpellsStatement (is_empty _) x = behind_token x
     through-SpellsStatement (is_labelled _ _ d2) x = behind_token (behind_token (through-SpellsStatement d2 x))
@@ -207,38 +207,38 @@ module _ (names : List (List ℕ)) where
     through-SpellsStatement (is_try_finally _ _ d2 d3 _ _ d6) x = behind_token (behind_token (through-SpellsBlock d2 (through-SpellsCatches d3 (behind_token (behind_token (through-SpellsBlock d6 x))))))
     through-SpellsStatement (step_statement _ d1 _) x = through-Spells d1 (behind_token x)
 
-    pub through-SpellsCondition : {end : ℕ} {e : Expression} {ts mid rest : List Token} → SpellsCondition names e ts mid → Ends end mid rest → Ends end ts rest
+    pub through-SpellsCondition : {end : ℕ} {e : Expression} {ts mid rest : List Token} → SpellsCondition names texts e ts mid → Ends end mid rest → Ends end ts rest
     through-SpellsCondition (condition _ d1 _) x = behind_token (through-Spells d1 (behind_token x))
 
-    pub through-SpellsCatches : {end : ℕ} {cs : Catches} {s : Span} {e : Span} {ts mid rest : List Token} → SpellsCatches names cs s e ts mid → Ends end mid rest → Ends end ts rest
+    pub through-SpellsCatches : {end : ℕ} {cs : Catches} {s : Span} {e : Span} {ts mid rest : List Token} → SpellsCatches names texts cs s e ts mid → Ends end mid rest → Ends end ts rest
     through-SpellsCatches no_catches x = x
     through-SpellsCatches (more_catches _ _ d2 d3 _ _ _ d7 d8) x = behind_token (behind_token (through-SpellsFinal d2 (through-SpellsName d3 (behind_token (behind_token (behind_token (through-SpellsBlock d7 (through-SpellsCatches d8 x))))))))
 
-    pub through-SpellsGroups : {end : ℕ} {gs : Groups} {c : Span} {ts mid rest : List Token} → SpellsGroups names gs c ts mid → Ends end mid rest → Ends end ts rest
+    pub through-SpellsGroups : {end : ℕ} {gs : Groups} {c : Span} {ts mid rest : List Token} → SpellsGroups names texts gs c ts mid → Ends end mid rest → Ends end ts rest
     through-SpellsGroups (no_groups _) x = behind_token x
     through-SpellsGroups (last_labels d0 _) x = through-SpellsLabels d0 (behind_token x)
     through-SpellsGroups (more_groups d0 d1 d2) x = through-SpellsLabels d0 (through-SpellsStatements d1 (through-SpellsGroups d2 x))
 
-    pub through-SpellsLabels : {end : ℕ} {ls : Labels} {ts mid rest : List Token} → SpellsLabels names ls ts mid → Ends end mid rest → Ends end ts rest
+    pub through-SpellsLabels : {end : ℕ} {ls : Labels} {ts mid rest : List Token} → SpellsLabels names texts ls ts mid → Ends end mid rest → Ends end ts rest
     through-SpellsLabels (last_case _ d1 _) x = behind_token (through-Spells d1 (behind_token x))
     through-SpellsLabels (last_default _ _) x = behind_token (behind_token x)
     through-SpellsLabels (more_cases _ d1 _ d3) x = behind_token (through-Spells d1 (behind_token (through-SpellsLabels d3 x)))
     through-SpellsLabels (more_defaults _ _ d2) x = behind_token (behind_token (through-SpellsLabels d2 x))
 
-    pub through-SpellsStatements : {end : ℕ} {bs : Statements} {ts mid rest : List Token} → SpellsStatements names bs ts mid → Ends end mid rest → Ends end ts rest
+    pub through-SpellsStatements : {end : ℕ} {bs : Statements} {ts mid rest : List Token} → SpellsStatements names texts bs ts mid → Ends end mid rest → Ends end ts rest
     through-SpellsStatements (last_statement d0) x = through-SpellsBlockStatement d0 x
     through-SpellsStatements (more_statements d0 d1) x = through-SpellsBlockStatement d0 (through-SpellsStatements d1 x)
 
-    pub through-SpellsBlock : {end : ℕ} {bs : Statements} {c : Span} {ts mid rest : List Token} → SpellsBlock names bs c ts mid → Ends end mid rest → Ends end ts rest
+    pub through-SpellsBlock : {end : ℕ} {bs : Statements} {c : Span} {ts mid rest : List Token} → SpellsBlock names texts bs c ts mid → Ends end mid rest → Ends end ts rest
     through-SpellsBlock (empty_block _) x = behind_token x
     through-SpellsBlock (full_block d0 _) x = through-SpellsStatements d0 (behind_token x)
 
-    pub through-SpellsBlockStatement : {end : ℕ} {b : Statement} {ts mid rest : List Token} → SpellsBlockStatement names b ts mid → Ends end mid rest → Ends end ts rest
+    pub through-SpellsBlockStatement : {end : ℕ} {b : Statement} {ts mid rest : List Token} → SpellsBlockStatement names texts b ts mid → Ends end mid rest → Ends end ts rest
     through-SpellsBlockStatement (is_local d0 d1 d2 _) x = through-SpellsFinal d0 (through-SpellsType d1 (through-SpellsVariables d2 (behind_token x)))
     through-SpellsBlockStatement (is_local_class _ d1 d2) x = through-SpellsModifiers d1 (through-SpellsClass d2 x)
     through-SpellsBlockStatement (is_statement d0) x = through-SpellsStatement d0 x
 
-    pub through-SpellsMember : {end : ℕ} {m : Member} {ts mid rest : List Token} → SpellsMember names m ts mid → Ends end mid rest → Ends end ts rest
+    pub through-SpellsMember : {end : ℕ} {m : Member} {ts mid rest : List Token} → SpellsMember names texts m ts mid → Ends end mid rest → Ends end ts rest
     through-SpellsMember (is_type d0) x = through-SpellsDeclaration d0 x
     through-SpellsMember (is_field d0 d1 d2 _) x = through-SpellsModifiers d0 (through-SpellsType d1 (through-SpellsVariables d2 (behind_token x)))
     through-SpellsMember (is_method d0 d1 _ d3 d4 d5) x = through-SpellsModifiers d0 (through-SpellsResult d1 (behind_token (through-SpellsFormals d3 (through-SpellsThrows d4 (through-SpellsMaybeBlock d5 x)))))
@@ -246,38 +246,38 @@ module _ (names : List (List ℕ)) where
     through-SpellsMember (is_initializer _ d1) x = behind_token (through-SpellsBlock d1 x)
     through-SpellsMember (is_static_initializer _ _ d2) x = behind_token (behind_token (through-SpellsBlock d2 x))
 
-    pub through-SpellsMaybeBlock : {end : ℕ} {b : MaybeBlock} {c : Span} {ts mid rest : List Token} → SpellsMaybeBlock names b c ts mid → Ends end mid rest → Ends end ts rest
+    pub through-SpellsMaybeBlock : {end : ℕ} {b : MaybeBlock} {c : Span} {ts mid rest : List Token} → SpellsMaybeBlock names texts b c ts mid → Ends end mid rest → Ends end ts rest
     through-SpellsMaybeBlock (without_body _) x = behind_token x
     through-SpellsMaybeBlock (with_body _ d1) x = behind_token (through-SpellsBlock d1 x)
 
-    pub through-SpellsFirstCall : {end : ℕ} {f : FirstCall} {ts mid rest : List Token} → SpellsFirstCall names f ts mid → Ends end mid rest → Ends end ts rest
+    pub through-SpellsFirstCall : {end : ℕ} {f : FirstCall} {ts mid rest : List Token} → SpellsFirstCall names texts f ts mid → Ends end mid rest → Ends end ts rest
     through-SpellsFirstCall no_call x = x
     through-SpellsFirstCall (this_call _ d1 _) x = behind_token (through-SpellsArguments d1 (behind_token x))
     through-SpellsFirstCall (super_call _ d1 _) x = behind_token (through-SpellsArguments d1 (behind_token x))
 
-    pub through-SpellsBody : {end : ℕ} {ms : Members} {c : Span} {ts mid rest : List Token} → SpellsBody names ms c ts mid → Ends end mid rest → Ends end ts rest
+    pub through-SpellsBody : {end : ℕ} {ms : Members} {c : Span} {ts mid rest : List Token} → SpellsBody names texts ms c ts mid → Ends end mid rest → Ends end ts rest
     through-SpellsBody (is_body _ d1) x = behind_token (through-SpellsMembers d1 x)
 
-    pub through-SpellsMembers : {end : ℕ} {ms : Members} {c : Span} {ts mid rest : List Token} → SpellsMembers names ms c ts mid → Ends end mid rest → Ends end ts rest
+    pub through-SpellsMembers : {end : ℕ} {ms : Members} {c : Span} {ts mid rest : List Token} → SpellsMembers names texts ms c ts mid → Ends end mid rest → Ends end ts rest
     through-SpellsMembers (no_members _) x = behind_token x
     through-SpellsMembers (lone_semicolon _ d1) x = behind_token (through-SpellsMembers d1 x)
     through-SpellsMembers (more_members d0 d1) x = through-SpellsMember d0 (through-SpellsMembers d1 x)
 
-    pub through-SpellsDeclaration : {end : ℕ} {d : Declaration} {ts mid rest : List Token} → SpellsDeclaration names d ts mid → Ends end mid rest → Ends end ts rest
+    pub through-SpellsDeclaration : {end : ℕ} {d : Declaration} {ts mid rest : List Token} → SpellsDeclaration names texts d ts mid → Ends end mid rest → Ends end ts rest
     through-SpellsDeclaration (is_class d0 d1) x = through-SpellsModifiers d0 (through-SpellsClass d1 x)
     through-SpellsDeclaration (is_interface d0 d1) x = through-SpellsModifiers d0 (through-SpellsInterface d1 x)
 
-    pub through-SpellsClass : {end : ℕ} {ms : List Modifier} {s : Span} {d : Declaration} {ts mid rest : List Token} → SpellsClass names ms s d ts mid → Ends end mid rest → Ends end ts rest
+    pub through-SpellsClass : {end : ℕ} {ms : List Modifier} {s : Span} {d : Declaration} {ts mid rest : List Token} → SpellsClass names texts ms s d ts mid → Ends end mid rest → Ends end ts rest
     through-SpellsClass (class_declaration _ _ d2 d3 d4 d5) x = behind_token (behind_token (through-SpellsTypeParameters d2 (through-SpellsExtends d3 (through-SpellsImplements d4 (through-SpellsBody d5 x)))))
 
-    pub through-SpellsInterface : {end : ℕ} {ms : List Modifier} {s : Span} {d : Declaration} {ts mid rest : List Token} → SpellsInterface names ms s d ts mid → Ends end mid rest → Ends end ts rest
+    pub through-SpellsInterface : {end : ℕ} {ms : List Modifier} {s : Span} {d : Declaration} {ts mid rest : List Token} → SpellsInterface names texts ms s d ts mid → Ends end mid rest → Ends end ts rest
     through-SpellsInterface (interface_declaration _ _ d2 d3 d4) x = behind_token (behind_token (through-SpellsTypeParameters d2 (through-SpellsExtendsAll d3 (through-SpellsBody d4 x))))
 
-  pub through-SpellsImports : {end : ℕ} {ns : List QualifiedName} {ts mid rest : List Token} → SpellsImports names ns ts mid → Ends end mid rest → Ends end ts rest
+  pub through-SpellsImports : {end : ℕ} {ns : List QualifiedName} {ts mid rest : List Token} → SpellsImports names texts ns ts mid → Ends end mid rest → Ends end ts rest
   through-SpellsImports no_imports x = x
   through-SpellsImports (more_imports _ d1 _ d3) x = behind_token (through-SpellsName d1 (behind_token (through-SpellsImports d3 x)))
 
-  pub through-SpellsDeclarations : {end : ℕ} {ds : List Declaration} {ts mid rest : List Token} → SpellsDeclarations names ds ts mid → Ends end mid rest → Ends end ts rest
+  pub through-SpellsDeclarations : {end : ℕ} {ds : List Declaration} {ts mid rest : List Token} → SpellsDeclarations names texts ds ts mid → Ends end mid rest → Ends end ts rest
   through-SpellsDeclarations no_declarations x = x
   through-SpellsDeclarations (semicolon_between _ d1) x = behind_token (through-SpellsDeclarations d1 x)
   through-SpellsDeclarations (more_declarations d0 d1) x = through-SpellsDeclaration d0 (through-SpellsDeclarations d1 x)

@@ -1,6 +1,6 @@
 -- JLS 18, with the productions of this subset: which tokens spell expressions, statements, members, declarations and
 -- units. Each relation holds of a tree, a list of tokens and its rest: the tree spells the tokens before the rest.
-use Rattle.std.specs.Prelude.{◌≡◌, ℕ, ◌<◌, ◌≤◌, Bool, true, false, List, [], ◌∷◌, Option, Some, None}
+use Rattle.std.specs.Prelude.{◌≡◌, ℕ, ◌<◌, ◌≤◌, Bool, true, false, List, [], ◌∷◌, Option, Some, None, pos, slice_get}
 use Rattle.je_core.specs.declared.span.Span.{Span}
 use Rattle.je_token.specs.declared.keyword.Keyword.TheVariants as word
 use Rattle.je_token.specs.declared.symbol.Symbol.{Symbol}
@@ -24,15 +24,15 @@ use Rattle.je_grammar.specs.Operators.{level, operator_level, operator_symbol, p
 use Rattle.je_grammar.specs.Types.{SpellsName, SpellsDims, SpellsType, SpellsRef, SpellsRefs, SpellsTypeParameters, SpellsFinal, SpellsFormals, SpellsThrows, SpellsResult, SpellsModifiers, primitive_word, has_arguments}
 use Rattle.je_grammar.specs.Context.{is_cast_before, is_not_plus_minus, is_bare_creation, is_step, ends_short, has_catch, are_local}
 
--- a literal's token
-pub data IsLiteral : Literal → Token → Type 0 where
-  int_literal : {t : Token} → Is kind.IntLiteral t → IsLiteral (lit.Int t.value) t
-  long_literal : {t : Token} → Is kind.LongLiteral t → IsLiteral (lit.Long t.value) t
-  char_literal : {t : Token} → Is kind.CharLiteral t → IsLiteral (lit.Char t.value) t
-  text_literal : {t : Token} → Is kind.TextLiteral t → IsLiteral (lit.Text t.value) t
-  true_literal : {t : Token} → IsWord word.True t → IsLiteral (lit.Bool true) t
-  false_literal : {t : Token} → IsWord word.False t → IsLiteral (lit.Bool false) t
-  null_literal : {t : Token} → IsWord word.Null t → IsLiteral lit.Null t
+-- a literal's token; that of a string has its text's place in the list
+pub data IsLiteral (texts : List (List ℕ)) : Literal → Token → Type 0 where
+  int_literal : {t : Token} → Is kind.IntLiteral t → IsLiteral texts (lit.Int t.value) t
+  long_literal : {t : Token} → Is kind.LongLiteral t → IsLiteral texts (lit.Long t.value) t
+  char_literal : {t : Token} → Is kind.CharLiteral t → IsLiteral texts (lit.Char t.value) t
+  text_literal : {place : ℕ} {units : List ℕ} {t : Token} → Is kind.TextLiteral t → t.value ≡ pos place → slice_get texts place ≡ Some units → IsLiteral texts (lit.Text units) t
+  true_literal : {t : Token} → IsWord word.True t → IsLiteral texts (lit.Bool true) t
+  false_literal : {t : Token} → IsWord word.False t → IsLiteral texts (lit.Bool false) t
+  null_literal : {t : Token} → IsWord word.Null t → IsLiteral texts lit.Null t
 
 -- Prim | Name, with the span
 pub data SpellsElement : Written → List Token → List Token → Type 0 where
@@ -62,12 +62,12 @@ pub data SpellsExtendsAll : Writtens → List Token → List Token → Type 0 wh
   extends_nothing : {rest : List Token} → SpellsExtendsAll no_types rest rest
   extends_all : {w : Token} {es : Writtens} {ts rest : List Token} → IsWord word.Extends w → SpellsRefs es ts rest → SpellsExtendsAll es (w ∷ ts) rest
 
--- Names are numbers of texts.
-module _ (names : List (List ℕ)) where
+-- Names are numbers among the names, and strings stand among the texts.
+module _ (names texts : List (List ℕ)) where
   mutual
     -- Expr
     pub data Spells : Expression → List Token → List Token → Type 0 where
-      is_literal : {l : Literal} {t : Token} {rest : List Token} → IsLiteral l t → Spells (tree.literal l t.span) (t ∷ rest) rest
+      is_literal : {l : Literal} {t : Token} {rest : List Token} → IsLiteral texts l t → Spells (tree.literal l t.span) (t ∷ rest) rest
       is_simple_name : {t : Token} {rest : List Token} → IsIdentifier t → Spells (tree.name (identifier t)) (t ∷ rest) rest
       is_this : {t : Token} {rest : List Token} → IsWord word.This t → Spells (tree.this t.span) (t ∷ rest) rest
       is_outer_this : {n : QualifiedName} {d t : Token} {ts rest : List Token} →

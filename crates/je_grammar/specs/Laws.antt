@@ -17,22 +17,22 @@ SpellsSome {T} spells = (t : T) (ts rest : List Token) → spells t ts rest → 
 
 -- The size of a unit is at most twice the number of its tokens.
 abbrev pub SizeWithinTokens : Type 0
-SizeWithinTokens = (names : List (List ℕ)) (u : CompilationUnit) (ts : List Token) → SpellsUnit names u ts → unit_size u.declarations ≤ 2 * length ts
+SizeWithinTokens = (names texts : List (List ℕ)) (u : CompilationUnit) (ts : List Token) → SpellsUnit names texts u ts → unit_size u.declarations ≤ 2 * length ts
 
 -- A name in brackets before an identifier is a cast and no bracketed expression.
 abbrev pub CastBeforeOperand : Type 0
-CastBeforeOperand = (names : List (List ℕ)) (n : Identifier) (s : Span) (t : Token) (ts rest : List Token) → IsIdentifier t →
-    ¬ Spells names (tree.brackets (tree.name n) s) ts (t ∷ rest)
+CastBeforeOperand = (names texts : List (List ℕ)) (n : Identifier) (s : Span) (t : Token) (ts rest : List Token) → IsIdentifier t →
+    ¬ Spells names texts (tree.brackets (tree.name n) s) ts (t ∷ rest)
 
 -- An `else` belongs to the nearest `if`: it isn't that of an `if` whose branch is an `if` without one.
 abbrev pub ElseOfNearestIf : Type 0
-ElseOfNearestIf = (names : List (List ℕ)) (f g r s : Span) (c d : Expression) (x y : Statement) (ts rest : List Token) →
-    ¬ SpellsStatement names (tree.if_else f c (tree.if_only g d x r) y s) ts rest
+ElseOfNearestIf = (names texts : List (List ℕ)) (f g r s : Span) (c d : Expression) (x y : Statement) (ts rest : List Token) →
+    ¬ SpellsStatement names texts (tree.if_else f c (tree.if_only g d x r) y s) ts rest
 
 -- An array creation without initializer isn't indexed by a bracket that follows it.
 abbrev pub CreationNotIndexed : Type 0
-CreationNotIndexed = (names : List (List ℕ)) (t : Written) (es : Expressions) (n : ℕ) (i : Expression) (r s : Span) (ts rest : List Token) →
-    ¬ Spells names (tree.index (tree.new_array t es n r) i s) ts rest
+CreationNotIndexed = (names texts : List (List ℕ)) (t : Written) (es : Expressions) (n : ℕ) (i : Expression) (r s : Span) (ts rest : List Token) →
+    ¬ Spells names texts (tree.index (tree.new_array t es n r) i s) ts rest
 
 -- A tree has the bytes from the beginning of its first token to the end of its last one, or, where it is a type argument
 -- that ends inside a `>>` or `>>>`, to the end of its own `>`.

@@ -8,10 +8,10 @@ ghost use Rattle.je_grammar.specs.Laws.{SpellsSome, SizeWithinTokens, SpansAreEx
 
 /// What a tree spells is at least one token long.
 pub fn spells_some()
-    ensures expressions { (names : List (List ℕ)) → SpellsSome (Spells names) }
-    ensures statements { (names : List (List ℕ)) → SpellsSome (SpellsBlockStatement names) }
-    ensures members { (names : List (List ℕ)) → SpellsSome (SpellsMember names) }
-    ensures declarations { (names : List (List ℕ)) → SpellsSome (SpellsDeclaration names) }
+    ensures expressions { (names texts : List (List ℕ)) → SpellsSome (Spells names texts) }
+    ensures statements { (names texts : List (List ℕ)) → SpellsSome (SpellsBlockStatement names texts) }
+    ensures members { (names texts : List (List ℕ)) → SpellsSome (SpellsMember names texts) }
+    ensures declarations { (names texts : List (List ℕ)) → SpellsSome (SpellsDeclaration names texts) }
     ensures types { SpellsSome SpellsType }
 {}
 
@@ -23,10 +23,10 @@ pub fn size_within_tokens()
 /// A tree has the bytes from the beginning of its first token to the end of its last one. A type argument that ends inside a
 /// `>>` or `>>>` ends with its own `>`.
 pub fn spans_are_extents()
-    ensures expressions { (names : List (List ℕ)) → SpansAreExtents (Spells names) span_of }
-    ensures statements { (names : List (List ℕ)) → SpansAreExtents (SpellsBlockStatement names) statement_span }
-    ensures members { (names : List (List ℕ)) → SpansAreExtents (SpellsMember names) member_span }
-    ensures declarations { (names : List (List ℕ)) → SpansAreExtents (SpellsDeclaration names) declaration_span }
+    ensures expressions { (names texts : List (List ℕ)) → SpansAreExtents (Spells names texts) span_of }
+    ensures statements { (names texts : List (List ℕ)) → SpansAreExtents (SpellsBlockStatement names texts) statement_span }
+    ensures members { (names texts : List (List ℕ)) → SpansAreExtents (SpellsMember names texts) member_span }
+    ensures declarations { (names texts : List (List ℕ)) → SpansAreExtents (SpellsDeclaration names texts) declaration_span }
     ensures types { SpansAreExtents SpellsType type_span }
 {}
 

@@ -15,98 +15,98 @@ use Rattle.je_ast.specs.Trees as tree
 use Rattle.je_grammar.specs.Tokens.{it_is, one_closes}
 use Rattle.je_grammar.specs.Types.{simple_name, qualified_name, no_dims, more_dims, primitive_type, reference_type, plain_ref, ref_with_arguments, last_argument, more_arguments, no_modifiers}
 use Rattle.je_grammar.specs.Grammar.{int_literal, long_literal, char_literal, text_literal, true_literal, false_literal, null_literal, primitive_element, class_element, is_literal, is_simple_name, is_this, is_outer_this, is_brackets, is_select, is_super_select, is_call, is_call_on, is_super_call, is_index, is_new, is_new_anonymous, is_new_array, is_new_array_of, is_primitive_cast, is_class_cast, is_prefix, is_postfix, is_binary, is_instance_of, is_conditional, is_assign, no_arguments, some_arguments, last_expression, more_expressions, last_length, more_lengths, expression_init, array_init, is_array_init, no_inits, comma_alone, some_inits, last_init, last_init_and_comma, more_inits, last_variable, without_init, is_field, is_body, no_members, more_members, Spells}
-use Rattle.je_grammar.specs.Rows.Scale.{from, id, named, sy, wd, num, names}
+use Rattle.je_grammar.specs.Rows.Scale.{from, id, named, sy, wd, num, names, texts}
 
 -- f(1, 2L, 'x', "", true, false, null)
-literals_row : Spells names (tree.call (named 5 0) (tree.more_expressions (tree.literal (lit.Int (pos 1)) (from 2 3))
+literals_row : Spells names texts (tree.call (named 5 0) (tree.more_expressions (tree.literal (lit.Int (pos 1)) (from 2 3))
     (tree.more_expressions (tree.literal (lit.Long (pos 2)) (from 5 7)) (tree.more_expressions (tree.literal
-    (lit.Char (pos 120)) (from 9 12)) (tree.more_expressions (tree.literal (lit.Text (pos 0)) (from 14 16))
+    (lit.Char (pos 120)) (from 9 12)) (tree.more_expressions (tree.literal (lit.Text []) (from 14 16))
     (tree.more_expressions (tree.literal (lit.Bool true) (from 18 22)) (tree.more_expressions (tree.literal
     (lit.Bool false) (from 24 29)) (tree.more_expressions (tree.literal lit.Null (from 31 35))
     tree.no_expressions))))))) (from 0 36)) (id 5 0 ∷ sy symbol.OpenParen 1 ∷ num kind.IntLiteral 1 2 3 ∷ sy
     symbol.Comma 3 ∷ num kind.LongLiteral 2 5 7 ∷ sy symbol.Comma 7 ∷ num kind.CharLiteral 120 9 12 ∷ sy
-    symbol.Comma 12 ∷ num kind.TextLiteral 0 14 16 ∷ sy symbol.Comma 16 ∷ wd word.True 18 ∷ sy symbol.Comma 22 ∷ wd
+    symbol.Comma 12 ∷ num kind.TextLiteral 1 14 16 ∷ sy symbol.Comma 16 ∷ wd word.True 18 ∷ sy symbol.Comma 22 ∷ wd
     word.False 24 ∷ sy symbol.Comma 29 ∷ wd word.Null 31 ∷ sy symbol.CloseParen 35 ∷ []) []
 literals_row = is_call it_is (some_arguments it_is (more_expressions (is_literal (int_literal it_is)) it_is
     (more_expressions (is_literal (long_literal it_is)) it_is (more_expressions (is_literal (char_literal it_is))
-    it_is (more_expressions (is_literal (text_literal it_is)) it_is (more_expressions (is_literal (true_literal
+    it_is (more_expressions (is_literal (text_literal it_is refl refl)) it_is (more_expressions (is_literal (true_literal
     it_is)) it_is (more_expressions (is_literal (false_literal it_is)) it_is (last_expression (is_literal
     (null_literal it_is))))))))) it_is)
 
 -- this.x
-this_row : Spells names (tree.select (tree.this (from 0 4)) (named 23 5) (from 0 6)) (wd word.This 0 ∷ sy symbol.Dot 4
+this_row : Spells names texts (tree.select (tree.this (from 0 4)) (named 23 5) (from 0 6)) (wd word.This 0 ∷ sy symbol.Dot 4
     ∷ id 23 5 ∷ []) []
 this_row = is_select (lit≤ tt) (is_this it_is) it_is it_is
 
 -- A.B.this
-outer_this_row : Spells names (tree.outer_this (record { parts = (named 26 0) ∷ (named 27 2) ∷ []; span = from 0 3 })
+outer_this_row : Spells names texts (tree.outer_this (record { parts = (named 26 0) ∷ (named 27 2) ∷ []; span = from 0 3 })
     (from 4 8) (from 0 8)) (id 26 0 ∷ sy symbol.Dot 1 ∷ id 27 2 ∷ sy symbol.Dot 3 ∷ wd word.This 4 ∷ []) []
 outer_this_row = is_outer_this (qualified_name it_is it_is (simple_name it_is)) it_is it_is
 
 -- (a)
-brackets_row : Spells names (tree.brackets (tree.name (named 0 1)) (from 0 3)) (sy symbol.OpenParen 0 ∷ id 0 1 ∷ sy
+brackets_row : Spells names texts (tree.brackets (tree.name (named 0 1)) (from 0 3)) (sy symbol.OpenParen 0 ∷ id 0 1 ∷ sy
     symbol.CloseParen 2 ∷ []) []
 brackets_row = is_brackets refl it_is (is_simple_name it_is) it_is
 
 -- super.x
-super_row : Spells names (tree.super_select (from 0 5) (named 23 6) (from 0 7)) (wd word.Super 0 ∷ sy symbol.Dot 5 ∷
+super_row : Spells names texts (tree.super_select (from 0 5) (named 23 6) (from 0 7)) (wd word.Super 0 ∷ sy symbol.Dot 5 ∷
     id 23 6 ∷ []) []
 super_row = is_super_select it_is it_is it_is
 
 -- super.f(a)
-super_call_row : Spells names (tree.super_call (from 0 5) (named 5 6) (tree.more_expressions (tree.name (named 0 8))
+super_call_row : Spells names texts (tree.super_call (from 0 5) (named 5 6) (tree.more_expressions (tree.name (named 0 8))
     tree.no_expressions) (from 0 10)) (wd word.Super 0 ∷ sy symbol.Dot 5 ∷ id 5 6 ∷ sy symbol.OpenParen 7 ∷ id 0 8 ∷
     sy symbol.CloseParen 9 ∷ []) []
 super_call_row = is_super_call it_is it_is it_is (some_arguments it_is (last_expression (is_simple_name it_is)) it_is)
 
 -- f()
-call_row : Spells names (tree.call (named 5 0) tree.no_expressions (from 0 3)) (id 5 0 ∷ sy symbol.OpenParen 1 ∷ sy
+call_row : Spells names texts (tree.call (named 5 0) tree.no_expressions (from 0 3)) (id 5 0 ∷ sy symbol.OpenParen 1 ∷ sy
     symbol.CloseParen 2 ∷ []) []
 call_row = is_call it_is (no_arguments it_is it_is)
 
 -- a.b.f(c)
-call_on_row : Spells names (tree.call_on (tree.select (tree.name (named 0 0)) (named 1 2) (from 0 3)) (named 5 4)
+call_on_row : Spells names texts (tree.call_on (tree.select (tree.name (named 0 0)) (named 1 2) (from 0 3)) (named 5 4)
     (tree.more_expressions (tree.name (named 2 6)) tree.no_expressions) (from 0 8)) (id 0 0 ∷ sy symbol.Dot 1 ∷ id 1
     2 ∷ sy symbol.Dot 3 ∷ id 5 4 ∷ sy symbol.OpenParen 5 ∷ id 2 6 ∷ sy symbol.CloseParen 7 ∷ []) []
 call_on_row = is_call_on (lit≤ tt) (is_select (lit≤ tt) (is_simple_name it_is) it_is it_is) it_is it_is
     (some_arguments it_is (last_expression (is_simple_name it_is)) it_is)
 
 -- a[i][j]
-index_row : Spells names (tree.index (tree.index (tree.name (named 0 0)) (tree.name (named 8 2)) (from 0 4))
+index_row : Spells names texts (tree.index (tree.index (tree.name (named 0 0)) (tree.name (named 8 2)) (from 0 4))
     (tree.name (named 9 5)) (from 0 7)) (id 0 0 ∷ sy symbol.OpenBracket 1 ∷ id 8 2 ∷ sy symbol.CloseBracket 3 ∷ sy
     symbol.OpenBracket 4 ∷ id 9 5 ∷ sy symbol.CloseBracket 6 ∷ []) []
 index_row = is_index (lit≤ tt) refl (is_index (lit≤ tt) refl (is_simple_name it_is) it_is (is_simple_name it_is)
     it_is) it_is (is_simple_name it_is) it_is
 
 -- (a) + b
-bracketed_sum_row : Spells names (tree.binary op.Add (from 4 5) (tree.brackets (tree.name (named 0 1)) (from 0 3))
+bracketed_sum_row : Spells names texts (tree.binary op.Add (from 4 5) (tree.brackets (tree.name (named 0 1)) (from 0 3))
     (tree.name (named 1 6)) (from 0 7)) (sy symbol.OpenParen 0 ∷ id 0 1 ∷ sy symbol.CloseParen 2 ∷ sy symbol.Plus 4
     ∷ id 1 6 ∷ []) []
 bracketed_sum_row = is_binary (lit≤ tt) (lit< tt) (is_brackets refl it_is (is_simple_name it_is) it_is) it_is
     (is_simple_name it_is)
 
 -- (a) b
-cast_row : Spells names (tree.cast (class_type (record { parts = (named 0 1) ∷ []; span = from 1 2 }) no_types 0 (from
+cast_row : Spells names texts (tree.cast (class_type (record { parts = (named 0 1) ∷ []; span = from 1 2 }) no_types 0 (from
     1 2)) (tree.name (named 1 4)) (from 0 5)) (sy symbol.OpenParen 0 ∷ id 0 1 ∷ sy symbol.CloseParen 2 ∷ id 1 4 ∷
     []) []
 cast_row = is_class_cast refl it_is (simple_name it_is) no_dims it_is (is_simple_name it_is)
 
 -- (A) (b)
-cast_of_brackets_row : Spells names (tree.cast (class_type (record { parts = (named 26 1) ∷ []; span = from 1 2 })
+cast_of_brackets_row : Spells names texts (tree.cast (class_type (record { parts = (named 26 1) ∷ []; span = from 1 2 })
     no_types 0 (from 1 2)) (tree.brackets (tree.name (named 1 5)) (from 4 7)) (from 0 7)) (sy symbol.OpenParen 0 ∷
     id 26 1 ∷ sy symbol.CloseParen 2 ∷ sy symbol.OpenParen 4 ∷ id 1 5 ∷ sy symbol.CloseParen 6 ∷ []) []
 cast_of_brackets_row = is_class_cast refl it_is (simple_name it_is) no_dims it_is (is_brackets refl it_is
     (is_simple_name it_is) it_is)
 
 -- (int) -x
-primitive_cast_row : Spells names (tree.cast (primitive prim.Int 0 (from 1 4)) (tree.prefix prefix_op.Minus (from 6 7)
+primitive_cast_row : Spells names texts (tree.cast (primitive prim.Int 0 (from 1 4)) (tree.prefix prefix_op.Minus (from 6 7)
     (tree.name (named 23 7)) (from 6 8)) (from 0 8)) (sy symbol.OpenParen 0 ∷ wd word.Int 1 ∷ sy symbol.CloseParen 4
     ∷ sy symbol.Minus 6 ∷ id 23 7 ∷ []) []
 primitive_cast_row = is_primitive_cast (lit≤ tt) it_is it_is no_dims it_is (is_prefix (lit≤ tt) it_is (is_simple_name
     it_is))
 
 -- (A.B[]) x
-array_cast_row : Spells names (tree.cast (class_type (record {
+array_cast_row : Spells names texts (tree.cast (class_type (record {
   parts = (named 26 1) ∷ (named 27 3) ∷ [];
   span = from 1
       4;
@@ -117,89 +117,89 @@ array_cast_row = is_class_cast refl it_is (qualified_name it_is it_is (simple_na
     no_dims) it_is (is_simple_name it_is)
 
 -- (A) -x
-difference_row : Spells names (tree.binary op.Subtract (from 4 5) (tree.brackets (tree.name (named 26 1)) (from 0 3))
+difference_row : Spells names texts (tree.binary op.Subtract (from 4 5) (tree.brackets (tree.name (named 26 1)) (from 0 3))
     (tree.name (named 23 5)) (from 0 6)) (sy symbol.OpenParen 0 ∷ id 26 1 ∷ sy symbol.CloseParen 2 ∷ sy symbol.Minus
     4 ∷ id 23 5 ∷ []) []
 difference_row = is_binary (lit≤ tt) (lit< tt) (is_brackets refl it_is (is_simple_name it_is) it_is) it_is
     (is_simple_name it_is)
 
 -- (A) !x
-not_cast_row : Spells names (tree.cast (class_type (record { parts = (named 26 1) ∷ []; span = from 1 2 }) no_types 0
+not_cast_row : Spells names texts (tree.cast (class_type (record { parts = (named 26 1) ∷ []; span = from 1 2 }) no_types 0
     (from 1 2)) (tree.prefix prefix_op.Not (from 4 5) (tree.name (named 23 5)) (from 4 6)) (from 0 6)) (sy
     symbol.OpenParen 0 ∷ id 26 1 ∷ sy symbol.CloseParen 2 ∷ sy symbol.Not 4 ∷ id 23 5 ∷ []) []
 not_cast_row = is_class_cast refl it_is (simple_name it_is) no_dims it_is (is_prefix (lit≤ tt) it_is (is_simple_name
     it_is))
 
 -- (int[]) ~x
-tilde_row : Spells names (tree.cast (primitive prim.Int 1 (from 1 6)) (tree.prefix prefix_op.Tilde (from 8 9)
+tilde_row : Spells names texts (tree.cast (primitive prim.Int 1 (from 1 6)) (tree.prefix prefix_op.Tilde (from 8 9)
     (tree.name (named 23 9)) (from 8 10)) (from 0 10)) (sy symbol.OpenParen 0 ∷ wd word.Int 1 ∷ sy
     symbol.OpenBracket 4 ∷ sy symbol.CloseBracket 5 ∷ sy symbol.CloseParen 6 ∷ sy symbol.Tilde 8 ∷ id 23 9 ∷ []) []
 tilde_row = is_primitive_cast (lit≤ tt) it_is it_is (more_dims it_is it_is no_dims) it_is (is_prefix (lit≤ tt) it_is
     (is_simple_name it_is))
 
 -- -x++
-prefix_row : Spells names (tree.prefix prefix_op.Minus (from 0 1) (tree.postfix postfix_op.Increment (from 2 4)
+prefix_row : Spells names texts (tree.prefix prefix_op.Minus (from 0 1) (tree.postfix postfix_op.Increment (from 2 4)
     (tree.name (named 23 1)) (from 1 4)) (from 0 4)) (sy symbol.Minus 0 ∷ id 23 1 ∷ sy symbol.Increment 2 ∷ []) []
 prefix_row = is_prefix (lit≤ tt) it_is (is_postfix (lit≤ tt) (is_simple_name it_is) it_is)
 
 -- ++x
-increment_row : Spells names (tree.prefix prefix_op.Increment (from 0 2) (tree.name (named 23 2)) (from 0 3)) (sy
+increment_row : Spells names texts (tree.prefix prefix_op.Increment (from 0 2) (tree.name (named 23 2)) (from 0 3)) (sy
     symbol.Increment 0 ∷ id 23 2 ∷ []) []
 increment_row = is_prefix (lit≤ tt) it_is (is_simple_name it_is)
 
 -- x++ --
-nested_postfix_row : Spells names (tree.postfix postfix_op.Decrement (from 4 6) (tree.postfix postfix_op.Increment
+nested_postfix_row : Spells names texts (tree.postfix postfix_op.Decrement (from 4 6) (tree.postfix postfix_op.Increment
     (from 1 3) (tree.name (named 23 0)) (from 0 3)) (from 0 6)) (id 23 0 ∷ sy symbol.Increment 1 ∷ sy
     symbol.Decrement 4 ∷ []) []
 nested_postfix_row = is_postfix (lit≤ tt) (is_postfix (lit≤ tt) (is_simple_name it_is) it_is) it_is
 
 -- +--x
-plus_row : Spells names (tree.prefix prefix_op.Plus (from 0 1) (tree.prefix prefix_op.Decrement (from 1 3) (tree.name
+plus_row : Spells names texts (tree.prefix prefix_op.Plus (from 0 1) (tree.prefix prefix_op.Decrement (from 1 3) (tree.name
     (named 23 3)) (from 1 4)) (from 0 4)) (sy symbol.Plus 0 ∷ sy symbol.Decrement 1 ∷ id 23 3 ∷ []) []
 plus_row = is_prefix (lit≤ tt) it_is (is_prefix (lit≤ tt) it_is (is_simple_name it_is))
 
 -- a < b >> c
-shift_row : Spells names (tree.binary op.Less (from 2 3) (tree.name (named 0 0)) (tree.binary op.ShiftRight (from 6 8)
+shift_row : Spells names texts (tree.binary op.Less (from 2 3) (tree.name (named 0 0)) (tree.binary op.ShiftRight (from 6 8)
     (tree.name (named 1 4)) (tree.name (named 2 9)) (from 4 10)) (from 0 10)) (id 0 0 ∷ sy symbol.Less 2 ∷ id 1 4 ∷
     sy symbol.ShiftRight 6 ∷ id 2 9 ∷ []) []
 shift_row = is_binary (lit≤ tt) (lit< tt) (is_simple_name it_is) it_is (is_binary (lit≤ tt) (lit< tt) (is_simple_name
     it_is) it_is (is_simple_name it_is))
 
 -- a >>> b << c
-unsigned_shift_row : Spells names (tree.binary op.ShiftLeft (from 8 10) (tree.binary op.UnsignedShiftRight (from 2 5)
+unsigned_shift_row : Spells names texts (tree.binary op.ShiftLeft (from 8 10) (tree.binary op.UnsignedShiftRight (from 2 5)
     (tree.name (named 0 0)) (tree.name (named 1 6)) (from 0 7)) (tree.name (named 2 11)) (from 0 12)) (id 0 0 ∷ sy
     symbol.UnsignedShiftRight 2 ∷ id 1 6 ∷ sy symbol.ShiftLeft 8 ∷ id 2 11 ∷ []) []
 unsigned_shift_row = is_binary (lit≤ tt) (lit< tt) (is_binary (lit≤ tt) (lit< tt) (is_simple_name it_is) it_is
     (is_simple_name it_is)) it_is (is_simple_name it_is)
 
 -- a == b != c
-equality_row : Spells names (tree.binary op.NotEqual (from 7 9) (tree.binary op.Equal (from 2 4) (tree.name (named 0
+equality_row : Spells names texts (tree.binary op.NotEqual (from 7 9) (tree.binary op.Equal (from 2 4) (tree.name (named 0
     0)) (tree.name (named 1 5)) (from 0 6)) (tree.name (named 2 10)) (from 0 11)) (id 0 0 ∷ sy symbol.Equal 2 ∷ id 1
     5 ∷ sy symbol.NotEqual 7 ∷ id 2 10 ∷ []) []
 equality_row = is_binary (lit≤ tt) (lit< tt) (is_binary (lit≤ tt) (lit< tt) (is_simple_name it_is) it_is
     (is_simple_name it_is)) it_is (is_simple_name it_is)
 
 -- a <= b
-relation_row : Spells names (tree.binary op.LessEqual (from 2 4) (tree.name (named 0 0)) (tree.name (named 1 5)) (from
+relation_row : Spells names texts (tree.binary op.LessEqual (from 2 4) (tree.name (named 0 0)) (tree.name (named 1 5)) (from
     0 6)) (id 0 0 ∷ sy symbol.LessEqual 2 ∷ id 1 5 ∷ []) []
 relation_row = is_binary (lit≤ tt) (lit< tt) (is_simple_name it_is) it_is (is_simple_name it_is)
 
 -- a > b >= c
-greater_row : Spells names (tree.binary op.GreaterEqual (from 6 8) (tree.binary op.Greater (from 2 3) (tree.name
+greater_row : Spells names texts (tree.binary op.GreaterEqual (from 6 8) (tree.binary op.Greater (from 2 3) (tree.name
     (named 0 0)) (tree.name (named 1 4)) (from 0 5)) (tree.name (named 2 9)) (from 0 10)) (id 0 0 ∷ sy
     symbol.Greater 2 ∷ id 1 4 ∷ sy symbol.GreaterEqual 6 ∷ id 2 9 ∷ []) []
 greater_row = is_binary (lit≤ tt) (lit< tt) (is_binary (lit≤ tt) (lit< tt) (is_simple_name it_is) it_is
     (is_simple_name it_is)) it_is (is_simple_name it_is)
 
 -- a - b - c
-left_row : Spells names (tree.binary op.Subtract (from 6 7) (tree.binary op.Subtract (from 2 3) (tree.name (named 0
+left_row : Spells names texts (tree.binary op.Subtract (from 6 7) (tree.binary op.Subtract (from 2 3) (tree.name (named 0
     0)) (tree.name (named 1 4)) (from 0 5)) (tree.name (named 2 8)) (from 0 9)) (id 0 0 ∷ sy symbol.Minus 2 ∷ id 1 4
     ∷ sy symbol.Minus 6 ∷ id 2 8 ∷ []) []
 left_row = is_binary (lit≤ tt) (lit< tt) (is_binary (lit≤ tt) (lit< tt) (is_simple_name it_is) it_is (is_simple_name
     it_is)) it_is (is_simple_name it_is)
 
 -- a + b * c / d % e
-product_row : Spells names (tree.binary op.Add (from 2 3) (tree.name (named 0 0)) (tree.binary op.Remainder (from 14
+product_row : Spells names texts (tree.binary op.Add (from 2 3) (tree.name (named 0 0)) (tree.binary op.Remainder (from 14
     15) (tree.binary op.Divide (from 10 11) (tree.binary op.Multiply (from 6 7) (tree.name (named 1 4)) (tree.name
     (named 2 8)) (from 4 9)) (tree.name (named 3 12)) (from 4 13)) (tree.name (named 4 16)) (from 4 17)) (from 0
     17)) (id 0 0 ∷ sy symbol.Plus 2 ∷ id 1 4 ∷ sy symbol.Star 6 ∷ id 2 8 ∷ sy symbol.Slash 10 ∷ id 3 12 ∷ sy
@@ -209,7 +209,7 @@ product_row = is_binary (lit≤ tt) (lit< tt) (is_simple_name it_is) it_is (is_b
     (is_simple_name it_is)) it_is (is_simple_name it_is))
 
 -- a | b ^ c & d
-bits_row : Spells names (tree.binary op.BitOr (from 2 3) (tree.name (named 0 0)) (tree.binary op.BitXor (from 6 7)
+bits_row : Spells names texts (tree.binary op.BitOr (from 2 3) (tree.name (named 0 0)) (tree.binary op.BitXor (from 6 7)
     (tree.name (named 1 4)) (tree.binary op.BitAnd (from 10 11) (tree.name (named 2 8)) (tree.name (named 3 12))
     (from 8 13)) (from 4 13)) (from 0 13)) (id 0 0 ∷ sy symbol.Or 2 ∷ id 1 4 ∷ sy symbol.Caret 6 ∷ id 2 8 ∷ sy
     symbol.And 10 ∷ id 3 12 ∷ []) []
@@ -217,14 +217,14 @@ bits_row = is_binary (lit≤ tt) (lit< tt) (is_simple_name it_is) it_is (is_bina
     it_is) it_is (is_binary (lit≤ tt) (lit< tt) (is_simple_name it_is) it_is (is_simple_name it_is)))
 
 -- a || b && c
-logic_row : Spells names (tree.binary op.Or (from 2 4) (tree.name (named 0 0)) (tree.binary op.And (from 7 9)
+logic_row : Spells names texts (tree.binary op.Or (from 2 4) (tree.name (named 0 0)) (tree.binary op.And (from 7 9)
     (tree.name (named 1 5)) (tree.name (named 2 10)) (from 5 11)) (from 0 11)) (id 0 0 ∷ sy symbol.OrOr 2 ∷ id 1 5 ∷
     sy symbol.AndAnd 7 ∷ id 2 10 ∷ []) []
 logic_row = is_binary (lit≤ tt) (lit< tt) (is_simple_name it_is) it_is (is_binary (lit≤ tt) (lit< tt) (is_simple_name
     it_is) it_is (is_simple_name it_is))
 
 -- a instanceof B[] == b
-instance_row : Spells names (tree.binary op.Equal (from 17 19) (tree.instance_of (from 2 12) (tree.name (named 0 0))
+instance_row : Spells names texts (tree.binary op.Equal (from 17 19) (tree.instance_of (from 2 12) (tree.name (named 0 0))
     (class_type (record { parts = (named 27 13) ∷ []; span = from 13 14 }) no_types 1 (from 13 16)) (from 0 16))
     (tree.name (named 1 20)) (from 0 21)) (id 0 0 ∷ wd word.InstanceOf 2 ∷ id 27 13 ∷ sy symbol.OpenBracket 14 ∷ sy
     symbol.CloseBracket 15 ∷ sy symbol.Equal 17 ∷ id 1 20 ∷ []) []
@@ -232,7 +232,7 @@ instance_row = is_binary (lit≤ tt) (lit< tt) (is_instance_of (lit≤ tt) refl 
     (reference_type (plain_ref (simple_name it_is)) (more_dims it_is it_is no_dims))) it_is (is_simple_name it_is)
 
 -- a < b instanceof C
-instance_chain_row : Spells names (tree.instance_of (from 6 16) (tree.binary op.Less (from 2 3) (tree.name (named 0
+instance_chain_row : Spells names texts (tree.instance_of (from 6 16) (tree.binary op.Less (from 2 3) (tree.name (named 0
     0)) (tree.name (named 1 4)) (from 0 5)) (class_type (record { parts = (named 28 17) ∷ []; span = from 17 18 })
     no_types 0 (from 17 18)) (from 0 18)) (id 0 0 ∷ sy symbol.Less 2 ∷ id 1 4 ∷ wd word.InstanceOf 6 ∷ id 28 17 ∷
     []) []
@@ -240,7 +240,7 @@ instance_chain_row = is_instance_of (lit≤ tt) refl (is_binary (lit≤ tt) (lit
     (is_simple_name it_is)) it_is (reference_type (plain_ref (simple_name it_is)) no_dims)
 
 -- a ? b : c ? d : e
-conditional_row : Spells names (tree.conditional (from 2 3) (tree.name (named 0 0)) (tree.name (named 1 4))
+conditional_row : Spells names texts (tree.conditional (from 2 3) (tree.name (named 0 0)) (tree.name (named 1 4))
     (tree.conditional (from 10 11) (tree.name (named 2 8)) (tree.name (named 3 12)) (tree.name (named 4 16)) (from 8
     17)) (from 0 17)) (id 0 0 ∷ sy symbol.Question 2 ∷ id 1 4 ∷ sy symbol.Colon 6 ∷ id 2 8 ∷ sy symbol.Question 10 ∷
     id 3 12 ∷ sy symbol.Colon 14 ∷ id 4 16 ∷ []) []
@@ -249,28 +249,28 @@ conditional_row = is_conditional (lit≤ tt) (lit≤ tt) (is_simple_name it_is) 
     it_is))
 
 -- a ? b = c : d
-conditional_assignment_row : Spells names (tree.conditional (from 2 3) (tree.name (named 0 0)) (tree.assign None (from
+conditional_assignment_row : Spells names texts (tree.conditional (from 2 3) (tree.name (named 0 0)) (tree.assign None (from
     6 7) (tree.name (named 1 4)) (tree.name (named 2 8)) (from 4 9)) (tree.name (named 3 12)) (from 0 13)) (id 0 0 ∷
     sy symbol.Question 2 ∷ id 1 4 ∷ sy symbol.Assign 6 ∷ id 2 8 ∷ sy symbol.Colon 10 ∷ id 3 12 ∷ []) []
 conditional_assignment_row = is_conditional (lit≤ tt) (lit≤ tt) (is_simple_name it_is) it_is (is_assign (lit≤ tt)
     (is_simple_name it_is) refl it_is (is_simple_name it_is)) it_is (is_simple_name it_is)
 
 -- a = b = c
-assign_row : Spells names (tree.assign None (from 2 3) (tree.name (named 0 0)) (tree.assign None (from 6 7) (tree.name
+assign_row : Spells names texts (tree.assign None (from 2 3) (tree.name (named 0 0)) (tree.assign None (from 6 7) (tree.name
     (named 1 4)) (tree.name (named 2 8)) (from 4 9)) (from 0 9)) (id 0 0 ∷ sy symbol.Assign 2 ∷ id 1 4 ∷ sy
     symbol.Assign 6 ∷ id 2 8 ∷ []) []
 assign_row = is_assign (lit≤ tt) (is_simple_name it_is) refl it_is (is_assign (lit≤ tt) (is_simple_name it_is) refl
     it_is (is_simple_name it_is))
 
 -- a[0] += b
-compound_row : Spells names (tree.assign (Some op.Add) (from 5 7) (tree.index (tree.name (named 0 0)) (tree.literal
+compound_row : Spells names texts (tree.assign (Some op.Add) (from 5 7) (tree.index (tree.name (named 0 0)) (tree.literal
     (lit.Int (pos 0)) (from 2 3)) (from 0 4)) (tree.name (named 1 8)) (from 0 9)) (id 0 0 ∷ sy symbol.OpenBracket 1
     ∷ num kind.IntLiteral 0 2 3 ∷ sy symbol.CloseBracket 3 ∷ sy symbol.PlusAssign 5 ∷ id 1 8 ∷ []) []
 compound_row = is_assign (lit≤ tt) (is_index (lit≤ tt) refl (is_simple_name it_is) it_is (is_literal (int_literal
     it_is)) it_is) refl it_is (is_simple_name it_is)
 
 -- a.x >>>= (b = c)
-shift_assign_row : Spells names (tree.assign (Some op.UnsignedShiftRight) (from 4 8) (tree.select (tree.name (named 0
+shift_assign_row : Spells names texts (tree.assign (Some op.UnsignedShiftRight) (from 4 8) (tree.select (tree.name (named 0
     0)) (named 23 2) (from 0 3)) (tree.brackets (tree.assign None (from 12 13) (tree.name (named 1 10)) (tree.name
     (named 2 14)) (from 10 15)) (from 9 16)) (from 0 16)) (id 0 0 ∷ sy symbol.Dot 1 ∷ id 23 2 ∷ sy
     symbol.UnsignedShiftRightAssign 4 ∷ sy symbol.OpenParen 9 ∷ id 1 10 ∷ sy symbol.Assign 12 ∷ id 2 14 ∷ sy
@@ -279,7 +279,7 @@ shift_assign_row = is_assign (lit≤ tt) (is_select (lit≤ tt) (is_simple_name 
     (is_brackets refl it_is (is_assign (lit≤ tt) (is_simple_name it_is) refl it_is (is_simple_name it_is)) it_is)
 
 -- new A.B(x)
-new_row : Spells names (tree.new_object (from 0 3) (class_type (record {
+new_row : Spells names texts (tree.new_object (from 0 3) (class_type (record {
   parts = (named 26 4) ∷ (named 27 6) ∷ [];
   span = from 4 7;
 }) no_types 0 (from 4 7)) (tree.more_expressions (tree.name (named 23 8)) tree.no_expressions)
@@ -289,7 +289,7 @@ new_row = is_new it_is (plain_ref (qualified_name it_is it_is (simple_name it_is
     (last_expression (is_simple_name it_is)) it_is)
 
 -- new G<A, int[]>()
-generic_new_row : Spells names (tree.new_object (from 0 3) (class_type (record {
+generic_new_row : Spells names texts (tree.new_object (from 0 3) (class_type (record {
   parts = (named 32 4) ∷ [];
   span =
       from 4 5;
@@ -303,7 +303,7 @@ generic_new_row = is_new it_is (ref_with_arguments (simple_name it_is) it_is (mo
     no_dims)) (one_closes it_is)))) (no_arguments it_is it_is)
 
 -- new int[3][]
-new_array_row : Spells names (tree.new_array (primitive prim.Int 0 (from 4 7)) (tree.more_expressions (tree.literal
+new_array_row : Spells names texts (tree.new_array (primitive prim.Int 0 (from 4 7)) (tree.more_expressions (tree.literal
     (lit.Int (pos 3)) (from 8 9)) tree.no_expressions) 1 (from 0 12)) (wd word.New 0 ∷ wd word.Int 4 ∷ sy
     symbol.OpenBracket 7 ∷ num kind.IntLiteral 3 8 9 ∷ sy symbol.CloseBracket 9 ∷ sy symbol.OpenBracket 10 ∷ sy
     symbol.CloseBracket 11 ∷ []) []
@@ -311,7 +311,7 @@ new_array_row = is_new_array it_is (primitive_element it_is) (last_length it_is 
     it_is) (more_dims it_is it_is no_dims)
 
 -- new A[a][b][][]
-new_lengths_row : Spells names (tree.new_array (class_type (record { parts = (named 26 4) ∷ []; span = from 4 5 })
+new_lengths_row : Spells names texts (tree.new_array (class_type (record { parts = (named 26 4) ∷ []; span = from 4 5 })
     no_types 0 (from 4 5)) (tree.more_expressions (tree.name (named 0 6)) (tree.more_expressions (tree.name (named 1
     9)) tree.no_expressions)) 2 (from 0 15)) (wd word.New 0 ∷ id 26 4 ∷ sy symbol.OpenBracket 5 ∷ id 0 6 ∷ sy
     symbol.CloseBracket 7 ∷ sy symbol.OpenBracket 8 ∷ id 1 9 ∷ sy symbol.CloseBracket 10 ∷ sy symbol.OpenBracket 11
@@ -320,7 +320,7 @@ new_lengths_row = is_new_array it_is (class_element (simple_name it_is)) (more_l
     it_is (last_length it_is (is_simple_name it_is) it_is)) (more_dims it_is it_is (more_dims it_is it_is no_dims))
 
 -- new int[3].x
-new_array_length_row : Spells names (tree.select (tree.new_array (primitive prim.Int 0 (from 4 7))
+new_array_length_row : Spells names texts (tree.select (tree.new_array (primitive prim.Int 0 (from 4 7))
     (tree.more_expressions (tree.literal (lit.Int (pos 3)) (from 8 9)) tree.no_expressions) 0 (from 0 10)) (named 23
     11) (from 0 12)) (wd word.New 0 ∷ wd word.Int 4 ∷ sy symbol.OpenBracket 7 ∷ num kind.IntLiteral 3 8 9 ∷ sy
     symbol.CloseBracket 9 ∷ sy symbol.Dot 10 ∷ id 23 11 ∷ []) []
@@ -328,7 +328,7 @@ new_array_length_row = is_select (lit≤ tt) (is_new_array it_is (primitive_elem
     (is_literal (int_literal it_is)) it_is) no_dims) it_is it_is
 
 -- new int[]{1}[0]
-array_of_row : Spells names (tree.index (tree.new_array_of (primitive prim.Int 0 (from 4 7)) 1 (tree.array_init
+array_of_row : Spells names texts (tree.index (tree.new_array_of (primitive prim.Int 0 (from 4 7)) 1 (tree.array_init
     (tree.more_expressions (tree.literal (lit.Int (pos 1)) (from 10 11)) tree.no_expressions) (from 9 12)) (from 0
     12)) (tree.literal (lit.Int (pos 0)) (from 13 14)) (from 0 15)) (wd word.New 0 ∷ wd word.Int 4 ∷ sy
     symbol.OpenBracket 7 ∷ sy symbol.CloseBracket 8 ∷ sy symbol.OpenBrace 9 ∷ num kind.IntLiteral 1 10 11 ∷ sy
@@ -339,7 +339,7 @@ array_of_row = is_index (lit≤ tt) refl (is_new_array_of it_is (primitive_eleme
     it_is)))) it_is (is_literal (int_literal it_is)) it_is
 
 -- new A[][]{{a}, {}, {,}, {b, c,}}
-array_of_arrays_row : Spells names (tree.new_array_of (class_type (record {
+array_of_arrays_row : Spells names texts (tree.new_array_of (class_type (record {
   parts = (named 26 4) ∷ [];
   span = from 4 5;
 }) no_types 0 (from 4 5)) 2 (tree.array_init (tree.more_expressions (tree.array_init (tree.more_expressions
@@ -361,7 +361,7 @@ array_of_arrays_row = is_new_array_of it_is (class_element (simple_name it_is)) 
     it_is))))))
 
 -- f(new A() { int x; })
-anonymous_row : Spells names (tree.call (named 5 0) (tree.more_expressions (tree.new_anonymous (from 2 5) (class_type
+anonymous_row : Spells names texts (tree.call (named 5 0) (tree.more_expressions (tree.new_anonymous (from 2 5) (class_type
     (record { parts = (named 26 6) ∷ []; span = from 6 7 }) no_types 0 (from 6 7)) tree.no_expressions
     (tree.more_members (tree.field [] (primitive prim.Int 0 (from 12 15)) (tree.more_variables (named 23 16) 0
     tree.no_expression tree.no_variables) (from 12 18)) tree.no_members) (from 2 20)) tree.no_expressions) (from 0

@@ -13,10 +13,10 @@ use Rattle.je_ast.specs.Trees as tree
 use Rattle.je_grammar.specs.Tokens.{it_is, one_closes}
 use Rattle.je_grammar.specs.Types.{simple_name, qualified_name, last_name, more_names, no_dims, more_dims, primitive_type, reference_type, plain_ref, ref_with_arguments, last_argument, no_parameters, not_final, is_final, formal, last_formal, more_formals, no_formals, some_formals, no_throws, some_throws, void_result, typed_result, override_modifier, word_modifier, no_modifiers, more_modifiers}
 use Rattle.je_grammar.specs.Grammar.{int_literal, no_extends, no_implements, extends_nothing, is_literal, is_simple_name, is_assign, no_arguments, some_arguments, last_expression, more_expressions, expression_init, last_variable, more_variables, without_init, with_init, something, is_return, step_statement, last_statement, empty_block, full_block, is_statement, is_type, is_field, is_method, is_constructor, is_initializer, is_static_initializer, without_body, with_body, no_call, this_call, super_call, is_body, no_members, lone_semicolon, more_members, is_class, is_interface, class_declaration, interface_declaration, SpellsMember}
-use Rattle.je_grammar.specs.Rows.Scale.{from, id, long_id, named, sy, wd, num, names}
+use Rattle.je_grammar.specs.Rows.Scale.{from, id, long_id, named, sy, wd, num, names, texts}
 
 -- private static final int a = 1, b[];
-field_row : SpellsMember names (tree.field ((record { kind = modifier.Private; span = from 0 7 }) ∷ ((record {
+field_row : SpellsMember names texts (tree.field ((record { kind = modifier.Private; span = from 0 7 }) ∷ ((record {
   kind =
       modifier.Static;
   span = from 8 14;
@@ -32,7 +32,7 @@ field_row = is_field (more_modifiers (word_modifier refl it_is) (more_modifiers 
     (more_dims it_is it_is no_dims) without_init)) it_is
 
 -- @Override public A f(final int a[], G<A> b) throws A, B.C { return a; }
-method_row : SpellsMember names (tree.method ((record { kind = modifier.Override; span = from 0 9 }) ∷ ((record {
+method_row : SpellsMember names texts (tree.method ((record { kind = modifier.Override; span = from 0 9 }) ∷ ((record {
   kind
       = modifier.Public;
   span = from 10 16;
@@ -77,7 +77,7 @@ method_row = is_method (more_modifiers (override_modifier it_is it_is refl) (mor
     (something (is_simple_name it_is)) it_is))) it_is))
 
 -- protected abstract void f();
-abstract_method_row : SpellsMember names (tree.method ((record { kind = modifier.Protected; span = from 0 9 }) ∷
+abstract_method_row : SpellsMember names texts (tree.method ((record { kind = modifier.Protected; span = from 0 9 }) ∷
     ((record { kind = modifier.Abstract; span = from 10 18 }) ∷ [])) None (named 5 24) [] [] tree.no_block (from 0
     28)) (wd word.Protected 0 ∷ wd word.Abstract 10 ∷ wd word.Void 19 ∷ id 5 24 ∷ sy symbol.OpenParen 25 ∷ sy
     symbol.CloseParen 26 ∷ sy symbol.Semicolon 27 ∷ []) []
@@ -85,7 +85,7 @@ abstract_method_row = is_method (more_modifiers (word_modifier refl it_is) (more
     no_modifiers)) (void_result it_is) it_is (no_formals it_is it_is) no_throws (without_body it_is)
 
 -- native int[] f();
-native_row : SpellsMember names (tree.method ((record { kind = modifier.Native; span = from 0 6 }) ∷ []) (Some
+native_row : SpellsMember names texts (tree.method ((record { kind = modifier.Native; span = from 0 6 }) ∷ []) (Some
     (primitive prim.Int 1 (from 7 12))) (named 5 13) [] [] tree.no_block (from 0 17)) (wd word.Native 0 ∷ wd
     word.Int 7 ∷ sy symbol.OpenBracket 10 ∷ sy symbol.CloseBracket 11 ∷ id 5 13 ∷ sy symbol.OpenParen 14 ∷ sy
     symbol.CloseParen 15 ∷ sy symbol.Semicolon 16 ∷ []) []
@@ -93,7 +93,7 @@ native_row = is_method (more_modifiers (word_modifier refl it_is) no_modifiers) 
     (more_dims it_is it_is no_dims))) it_is (no_formals it_is it_is) no_throws (without_body it_is)
 
 -- public A(int a) throws B { this(a, b); x = a; }
-constructor_row : SpellsMember names (tree.constructor ((record { kind = modifier.Public; span = from 0 6 }) ∷ [])
+constructor_row : SpellsMember names texts (tree.constructor ((record { kind = modifier.Public; span = from 0 6 }) ∷ [])
     (named 26 7) ((record {
       is_final = false;
       declared = (primitive prim.Int 0 (from 9 12));
@@ -115,7 +115,7 @@ constructor_row = is_constructor (more_modifiers (word_modifier refl it_is) no_m
     it_is)
 
 -- A() { super(); }
-super_constructor_row : SpellsMember names (tree.constructor [] (named 26 0) [] [] (tree.explicit true (from 6 11)
+super_constructor_row : SpellsMember names texts (tree.constructor [] (named 26 0) [] [] (tree.explicit true (from 6 11)
     tree.no_expressions) (from 4 5) tree.no_statements (from 15 16) (from 0 16)) (id 26 0 ∷ sy symbol.OpenParen 1 ∷
     sy symbol.CloseParen 2 ∷ sy symbol.OpenBrace 4 ∷ wd word.Super 6 ∷ sy symbol.OpenParen 11 ∷ sy symbol.CloseParen
     12 ∷ sy symbol.Semicolon 13 ∷ sy symbol.CloseBrace 15 ∷ []) []
@@ -123,14 +123,14 @@ super_constructor_row = is_constructor no_modifiers it_is (no_formals it_is it_i
     (no_arguments it_is it_is) it_is) (empty_block it_is)
 
 -- A() { }
-plain_constructor_row : SpellsMember names (tree.constructor [] (named 26 0) [] [] tree.implicit (from 4 5)
+plain_constructor_row : SpellsMember names texts (tree.constructor [] (named 26 0) [] [] tree.implicit (from 4 5)
     tree.no_statements (from 6 7) (from 0 7)) (id 26 0 ∷ sy symbol.OpenParen 1 ∷ sy symbol.CloseParen 2 ∷ sy
     symbol.OpenBrace 4 ∷ sy symbol.CloseBrace 6 ∷ []) []
 plain_constructor_row = is_constructor no_modifiers it_is (no_formals it_is it_is) no_throws it_is no_call
     (empty_block it_is)
 
 -- { x = 1; }
-initializer_row : SpellsMember names (tree.initializer None (from 0 1) (tree.more_statements (tree.step (from 2 3)
+initializer_row : SpellsMember names texts (tree.initializer None (from 0 1) (tree.more_statements (tree.step (from 2 3)
     (tree.assign None (from 4 5) (tree.name (named 23 2)) (tree.literal (lit.Int (pos 1)) (from 6 7)) (from 2 7))
     (from 2 8)) tree.no_statements) (from 9 10) (from 0 10)) (sy symbol.OpenBrace 0 ∷ id 23 2 ∷ sy symbol.Assign 4 ∷
     num kind.IntLiteral 1 6 7 ∷ sy symbol.Semicolon 7 ∷ sy symbol.CloseBrace 9 ∷ []) []
@@ -138,12 +138,12 @@ initializer_row = is_initializer it_is (full_block (last_statement (is_statement
     tt) (is_simple_name it_is) refl it_is (is_literal (int_literal it_is))) it_is))) it_is)
 
 -- static { }
-static_initializer_row : SpellsMember names (tree.initializer (Some (from 0 6)) (from 7 8) tree.no_statements (from 9
+static_initializer_row : SpellsMember names texts (tree.initializer (Some (from 0 6)) (from 7 8) tree.no_statements (from 9
     10) (from 0 10)) (wd word.Static 0 ∷ sy symbol.OpenBrace 7 ∷ sy symbol.CloseBrace 9 ∷ []) []
 static_initializer_row = is_static_initializer it_is it_is (empty_block it_is)
 
 -- static class A { }
-member_class_row : SpellsMember names (tree.member_type (tree.class_declaration ((record {
+member_class_row : SpellsMember names texts (tree.member_type (tree.class_declaration ((record {
   kind = modifier.Static;
   span = from 0 6;
 }) ∷ []) (named 26 13) [] None no_types tree.no_members (from 0 18))) (wd word.Static 0 ∷ wd
@@ -152,7 +152,7 @@ member_class_row = is_type (is_class (more_modifiers (word_modifier refl it_is) 
     it_is no_parameters no_extends no_implements (is_body it_is (no_members it_is))))
 
 -- @Override @Override interface I { ; int f(); ; }
-member_interface_row : SpellsMember names (tree.member_type (tree.interface_declaration ((record {
+member_interface_row : SpellsMember names texts (tree.member_type (tree.interface_declaration ((record {
   kind =
       modifier.Override;
   span = from 0 9;

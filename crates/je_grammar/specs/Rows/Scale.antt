@@ -43,3 +43,7 @@ named t a = record { name = record { 0 = t }; span = from a (a + 1) }
 -- the texts: a to z, A to Z, and `Override`
 abbrev pub names : List (List ℕ)
 names = codes "a" ∷ codes "b" ∷ codes "c" ∷ codes "d" ∷ codes "e" ∷ codes "f" ∷ codes "g" ∷ codes "h" ∷ codes "i" ∷ codes "j" ∷ codes "k" ∷ codes "l" ∷ codes "m" ∷ codes "n" ∷ codes "o" ∷ codes "p" ∷ codes "q" ∷ codes "r" ∷ codes "s" ∷ codes "t" ∷ codes "u" ∷ codes "v" ∷ codes "w" ∷ codes "x" ∷ codes "y" ∷ codes "z" ∷ codes "A" ∷ codes "B" ∷ codes "C" ∷ codes "D" ∷ codes "E" ∷ codes "F" ∷ codes "G" ∷ codes "H" ∷ codes "I" ∷ codes "J" ∷ codes "K" ∷ codes "L" ∷ codes "M" ∷ codes "N" ∷ codes "O" ∷ codes "P" ∷ codes "Q" ∷ codes "R" ∷ codes "S" ∷ codes "T" ∷ codes "U" ∷ codes "V" ∷ codes "W" ∷ codes "X" ∷ codes "Y" ∷ codes "Z" ∷ codes "Override" ∷ []
+
+-- the units of string literals: `x`, and none
+abbrev pub texts : List (List ℕ)
+texts = codes "x" ∷ [] ∷ []

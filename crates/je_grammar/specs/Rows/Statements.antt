@@ -16,10 +16,10 @@ use Rattle.je_ast.specs.Trees as tree
 use Rattle.je_grammar.specs.Tokens.{it_is, one_closes, first_of_two, first_of_three}
 use Rattle.je_grammar.specs.Types.{simple_name, qualified_name, no_dims, more_dims, primitive_type, reference_type, plain_ref, ref_with_arguments, last_argument, no_parameters, not_final, is_final, word_modifier, no_modifiers, more_modifiers}
 use Rattle.je_grammar.specs.Grammar.{int_literal, null_literal, no_label, a_label, no_extends, no_implements, is_literal, is_simple_name, is_call, is_call_on, is_super_call, is_new, is_new_anonymous, is_prefix, is_postfix, is_binary, is_assign, no_arguments, expression_init, array_init, is_array_init, some_inits, last_init_and_comma, more_inits, last_variable, more_variables, without_init, with_init, nothing, something, last_step, more_steps, no_steps, some_steps, start_locals, start_steps, is_block, is_empty, is_labelled, is_if_only, is_if_else, is_while, is_do, is_for, is_for_each, is_switch, is_break, is_continue, is_return, is_throw, is_try, is_try_finally, step_statement, condition, no_catches, more_catches, no_groups, last_labels, more_groups, last_case, last_default, more_cases, more_defaults, last_statement, more_statements, empty_block, full_block, is_local, is_local_class, is_statement, is_body, no_members, class_declaration, SpellsBlockStatement}
-use Rattle.je_grammar.specs.Rows.Scale.{from, id, named, sy, wd, num, names}
+use Rattle.je_grammar.specs.Rows.Scale.{from, id, named, sy, wd, num, names, texts}
 
 -- G<G<A>> x;
-generic_local_row : SpellsBlockStatement names (tree.local (from 0 1) false (class_type (record {
+generic_local_row : SpellsBlockStatement names texts (tree.local (from 0 1) false (class_type (record {
   parts = (named 32 0)
       ∷ [];
   span = from 0 1;
@@ -34,7 +34,7 @@ generic_local_row = is_local not_final (reference_type (ref_with_arguments (simp
     (last_variable it_is no_dims without_init) it_is
 
 -- G<G<G<A>>> x = null;
-deep_generic_row : SpellsBlockStatement names (tree.local (from 0 1) false (class_type (record {
+deep_generic_row : SpellsBlockStatement names texts (tree.local (from 0 1) false (class_type (record {
   parts = (named 32 0)
       ∷ [];
   span = from 0 1;
@@ -52,7 +52,7 @@ deep_generic_row = is_local not_final (reference_type (ref_with_arguments (simpl
     (last_variable it_is no_dims (with_init it_is (expression_init (is_literal (null_literal it_is))))) it_is
 
 -- int a[] = {1, 2,}, b;
-array_local_row : SpellsBlockStatement names (tree.local (from 0 3) false (primitive prim.Int 0 (from 0 3))
+array_local_row : SpellsBlockStatement names texts (tree.local (from 0 3) false (primitive prim.Int 0 (from 0 3))
     (tree.more_variables (named 0 4) 1 (tree.an_expression (tree.array_init (tree.more_expressions (tree.literal
     (lit.Int (pos 1)) (from 11 12)) (tree.more_expressions (tree.literal (lit.Int (pos 2)) (from 14 15))
     tree.no_expressions)) (from 10 17))) (tree.more_variables (named 1 19) 0 tree.no_expression tree.no_variables))
@@ -65,7 +65,7 @@ array_local_row = is_local not_final (primitive_type it_is no_dims) (more_variab
     it_is)))))) it_is (last_variable it_is no_dims without_init)) it_is
 
 -- final A.B[][] x = y, z[];
-final_local_row : SpellsBlockStatement names (tree.local (from 0 5) true (class_type (record {
+final_local_row : SpellsBlockStatement names texts (tree.local (from 0 5) true (class_type (record {
   parts = (named 26 6) ∷
       (named 27 8) ∷ [];
   span = from 6 9;
@@ -81,7 +81,7 @@ final_local_row = is_local (is_final it_is) (reference_type (plain_ref (qualifie
     without_init)) it_is
 
 -- final abstract class A { }
-local_class_row : SpellsBlockStatement names (tree.local_class (tree.class_declaration ((record {
+local_class_row : SpellsBlockStatement names texts (tree.local_class (tree.class_declaration ((record {
   kind =
       modifier.Final;
   span = from 0 5;
@@ -93,7 +93,7 @@ local_class_row = is_local_class refl (more_modifiers (word_modifier refl it_is)
     (no_members it_is)))
 
 -- if (a) if (b) c(); else d();
-else_row : SpellsBlockStatement names (tree.if_only (from 0 2) (tree.name (named 0 4)) (tree.if_else (from 7 9)
+else_row : SpellsBlockStatement names texts (tree.if_only (from 0 2) (tree.name (named 0 4)) (tree.if_else (from 7 9)
     (tree.name (named 1 11)) (tree.step (from 14 15) (tree.call (named 2 14) tree.no_expressions (from 14 17)) (from
     14 18)) (tree.step (from 24 25) (tree.call (named 3 24) tree.no_expressions (from 24 27)) (from 24 28)) (from 7
     28)) (from 0 28)) (wd word.If 0 ∷ sy symbol.OpenParen 3 ∷ id 0 4 ∷ sy symbol.CloseParen 5 ∷ wd word.If 7 ∷ sy
@@ -105,7 +105,7 @@ else_row = is_statement (is_if_only it_is (condition it_is (is_simple_name it_is
     it_is) it_is (step_statement refl (is_call it_is (no_arguments it_is it_is)) it_is)))
 
 -- if (a) if (b) c(); else d(); else e();
-else_else_row : SpellsBlockStatement names (tree.if_else (from 0 2) (tree.name (named 0 4)) (tree.if_else (from 7 9)
+else_else_row : SpellsBlockStatement names texts (tree.if_else (from 0 2) (tree.name (named 0 4)) (tree.if_else (from 7 9)
     (tree.name (named 1 11)) (tree.step (from 14 15) (tree.call (named 2 14) tree.no_expressions (from 14 17)) (from
     14 18)) (tree.step (from 24 25) (tree.call (named 3 24) tree.no_expressions (from 24 27)) (from 24 28)) (from 7
     28)) (tree.step (from 34 35) (tree.call (named 4 34) tree.no_expressions (from 34 37)) (from 34 38)) (from 0
@@ -120,12 +120,12 @@ else_else_row = is_statement (is_if_else refl it_is (condition it_is (is_simple_
     (step_statement refl (is_call it_is (no_arguments it_is it_is)) it_is))
 
 -- if (a) ;
-if_row : SpellsBlockStatement names (tree.if_only (from 0 2) (tree.name (named 0 4)) (tree.empty (from 7 8)) (from 0
+if_row : SpellsBlockStatement names texts (tree.if_only (from 0 2) (tree.name (named 0 4)) (tree.empty (from 7 8)) (from 0
     8)) (wd word.If 0 ∷ sy symbol.OpenParen 3 ∷ id 0 4 ∷ sy symbol.CloseParen 5 ∷ sy symbol.Semicolon 7 ∷ []) []
 if_row = is_statement (is_if_only it_is (condition it_is (is_simple_name it_is) it_is) (is_empty it_is))
 
 -- a: while (b) { continue a; }
-labelled_row : SpellsBlockStatement names (tree.labelled (named 0 0) (tree.while (from 3 8) (tree.name (named 1 10))
+labelled_row : SpellsBlockStatement names texts (tree.labelled (named 0 0) (tree.while (from 3 8) (tree.name (named 1 10))
     (tree.block (from 13 14) (tree.more_statements (tree.continue (from 15 23) (Some (named 0 24)) (from 15 26))
     tree.no_statements) (from 27 28)) (from 3 28)) (from 0 28)) (id 0 0 ∷ sy symbol.Colon 1 ∷ wd word.While 3 ∷ sy
     symbol.OpenParen 9 ∷ id 1 10 ∷ sy symbol.CloseParen 11 ∷ sy symbol.OpenBrace 13 ∷ wd word.Continue 15 ∷ id 0 24
@@ -134,7 +134,7 @@ labelled_row = is_statement (is_labelled it_is it_is (is_while it_is (condition 
     (is_block it_is (full_block (last_statement (is_statement (is_continue it_is (a_label it_is) it_is))) it_is))))
 
 -- do x++; while (a);
-do_row : SpellsBlockStatement names (tree.do_while (from 0 2) (tree.step (from 3 4) (tree.postfix postfix_op.Increment
+do_row : SpellsBlockStatement names texts (tree.do_while (from 0 2) (tree.step (from 3 4) (tree.postfix postfix_op.Increment
     (from 4 6) (tree.name (named 23 3)) (from 3 6)) (from 3 7)) (tree.name (named 0 15)) (from 0 18)) (wd word.Do 0
     ∷ id 23 3 ∷ sy symbol.Increment 4 ∷ sy symbol.Semicolon 6 ∷ wd word.While 8 ∷ sy symbol.OpenParen 14 ∷ id 0 15 ∷
     sy symbol.CloseParen 16 ∷ sy symbol.Semicolon 17 ∷ []) []
@@ -142,7 +142,7 @@ do_row = is_statement (is_do it_is (step_statement refl (is_postfix (lit≤ tt) 
     it_is (condition it_is (is_simple_name it_is) it_is) it_is)
 
 -- for (int i = 0, j = 1; i < n; i++, --j) { }
-for_row : SpellsBlockStatement names (tree.for (from 0 3) (tree.locals false (primitive prim.Int 0 (from 5 8))
+for_row : SpellsBlockStatement names texts (tree.for (from 0 3) (tree.locals false (primitive prim.Int 0 (from 5 8))
     (tree.more_variables (named 8 9) 0 (tree.an_expression (tree.literal (lit.Int (pos 0)) (from 13 14)))
     (tree.more_variables (named 9 16) 0 (tree.an_expression (tree.literal (lit.Int (pos 1)) (from 20 21)))
     tree.no_variables))) (tree.an_expression (tree.binary op.Less (from 25 26) (tree.name (named 8 23)) (tree.name
@@ -162,7 +162,7 @@ for_row = is_statement (is_for it_is it_is (start_locals not_final (primitive_ty
     (is_simple_name it_is))))) it_is (is_block it_is (empty_block it_is)))
 
 -- for (;;) break;
-empty_for_row : SpellsBlockStatement names (tree.for (from 0 3) (tree.steps tree.no_expressions) tree.no_expression
+empty_for_row : SpellsBlockStatement names texts (tree.for (from 0 3) (tree.steps tree.no_expressions) tree.no_expression
     tree.no_expressions (tree.break (from 9 14) None (from 9 15)) (from 0 15)) (wd word.For 0 ∷ sy symbol.OpenParen
     4 ∷ sy symbol.Semicolon 5 ∷ sy symbol.Semicolon 6 ∷ sy symbol.CloseParen 7 ∷ wd word.Break 9 ∷ sy
     symbol.Semicolon 14 ∷ []) []
@@ -170,7 +170,7 @@ empty_for_row = is_statement (is_for it_is it_is (start_steps no_steps) it_is no
     it_is no_label it_is))
 
 -- for (i = 0; ; f()) ;
-steps_for_row : SpellsBlockStatement names (tree.for (from 0 3) (tree.steps (tree.more_expressions (tree.assign None
+steps_for_row : SpellsBlockStatement names texts (tree.for (from 0 3) (tree.steps (tree.more_expressions (tree.assign None
     (from 7 8) (tree.name (named 8 5)) (tree.literal (lit.Int (pos 0)) (from 9 10)) (from 5 10))
     tree.no_expressions)) tree.no_expression (tree.more_expressions (tree.call (named 5 14) tree.no_expressions
     (from 14 17)) tree.no_expressions) (tree.empty (from 19 20)) (from 0 20)) (wd word.For 0 ∷ sy symbol.OpenParen 4
@@ -182,7 +182,7 @@ steps_for_row = is_statement (is_for it_is it_is (start_steps (some_steps (last_
     (last_step refl (is_call it_is (no_arguments it_is it_is)))) it_is (is_empty it_is))
 
 -- for (final A x : a) x.f();
-for_each_row : SpellsBlockStatement names (tree.for_each (from 0 3) true (class_type (record {
+for_each_row : SpellsBlockStatement names texts (tree.for_each (from 0 3) true (class_type (record {
   parts = (named 26 11) ∷
       [];
   span = from 11 12;
@@ -196,7 +196,7 @@ for_each_row = is_statement (is_for_each it_is it_is (is_final it_is) (reference
     it_is) it_is it_is (no_arguments it_is it_is)) it_is))
 
 -- switch (a) { case 1: case 2: f(); return; default: break; case 3: }
-switch_row : SpellsBlockStatement names (tree.switch (from 0 6) (tree.name (named 0 8)) (tree.more_groups
+switch_row : SpellsBlockStatement names texts (tree.switch (from 0 6) (tree.name (named 0 8)) (tree.more_groups
     (tree.case_label (tree.literal (lit.Int (pos 1)) (from 18 19)) (tree.case_label (tree.literal (lit.Int (pos 2))
     (from 26 27)) tree.no_labels)) (tree.more_statements (tree.step (from 29 30) (tree.call (named 5 29)
     tree.no_expressions (from 29 32)) (from 29 33)) (tree.more_statements (tree.return (from 34 40)
@@ -217,14 +217,14 @@ switch_row = is_statement (is_switch it_is (condition it_is (is_simple_name it_i
     (int_literal it_is)) it_is) it_is))))
 
 -- switch (a) { }
-empty_switch_row : SpellsBlockStatement names (tree.switch (from 0 6) (tree.name (named 0 8)) tree.no_groups (from 0
+empty_switch_row : SpellsBlockStatement names texts (tree.switch (from 0 6) (tree.name (named 0 8)) tree.no_groups (from 0
     14)) (wd word.Switch 0 ∷ sy symbol.OpenParen 7 ∷ id 0 8 ∷ sy symbol.CloseParen 9 ∷ sy symbol.OpenBrace 11 ∷ sy
     symbol.CloseBrace 13 ∷ []) []
 empty_switch_row = is_statement (is_switch it_is (condition it_is (is_simple_name it_is) it_is) it_is (no_groups
     it_is))
 
 -- switch (a) { default: case 1: f(); }
-default_first_row : SpellsBlockStatement names (tree.switch (from 0 6) (tree.name (named 0 8)) (tree.more_groups
+default_first_row : SpellsBlockStatement names texts (tree.switch (from 0 6) (tree.name (named 0 8)) (tree.more_groups
     (tree.default_label (from 13 20) (tree.case_label (tree.literal (lit.Int (pos 1)) (from 27 28)) tree.no_labels))
     (tree.more_statements (tree.step (from 30 31) (tree.call (named 5 30) tree.no_expressions (from 30 33)) (from 30
     34)) tree.no_statements) tree.no_groups) (from 0 36)) (wd word.Switch 0 ∷ sy symbol.OpenParen 7 ∷ id 0 8 ∷ sy
@@ -236,7 +236,7 @@ default_first_row = is_statement (is_switch it_is (condition it_is (is_simple_na
     (is_statement (step_statement refl (is_call it_is (no_arguments it_is it_is)) it_is))) (no_groups it_is)))
 
 -- { break a; continue; }
-break_row : SpellsBlockStatement names (tree.block (from 0 1) (tree.more_statements (tree.break (from 2 7) (Some
+break_row : SpellsBlockStatement names texts (tree.block (from 0 1) (tree.more_statements (tree.break (from 2 7) (Some
     (named 0 8)) (from 2 10)) (tree.more_statements (tree.continue (from 11 19) None (from 11 20))
     tree.no_statements)) (from 21 22)) (sy symbol.OpenBrace 0 ∷ wd word.Break 2 ∷ id 0 8 ∷ sy symbol.Semicolon 9 ∷
     wd word.Continue 11 ∷ sy symbol.Semicolon 19 ∷ sy symbol.CloseBrace 21 ∷ []) []
@@ -244,12 +244,12 @@ break_row = is_statement (is_block it_is (full_block (more_statements (is_statem
     it_is)) (last_statement (is_statement (is_continue it_is no_label it_is)))) it_is))
 
 -- return a;
-return_row : SpellsBlockStatement names (tree.return (from 0 6) (tree.an_expression (tree.name (named 0 7))) (from 0
+return_row : SpellsBlockStatement names texts (tree.return (from 0 6) (tree.an_expression (tree.name (named 0 7))) (from 0
     9)) (wd word.Return 0 ∷ id 0 7 ∷ sy symbol.Semicolon 8 ∷ []) []
 return_row = is_statement (is_return it_is (something (is_simple_name it_is)) it_is)
 
 -- throw new A();
-throw_row : SpellsBlockStatement names (tree.throw (from 0 5) (tree.new_object (from 6 9) (class_type (record {
+throw_row : SpellsBlockStatement names texts (tree.throw (from 0 5) (tree.new_object (from 6 9) (class_type (record {
   parts
       = (named 26 10) ∷ [];
   span = from 10 11;
@@ -260,7 +260,7 @@ throw_row = is_statement (is_throw it_is (is_new it_is (plain_ref (simple_name i
     it_is)
 
 -- try { } catch (A.B a) { f(); }
-try_row : SpellsBlockStatement names (tree.try (from 0 3) (from 4 5) tree.no_statements (from 6 7) (tree.more_catches
+try_row : SpellsBlockStatement names texts (tree.try (from 0 3) (from 4 5) tree.no_statements (from 6 7) (tree.more_catches
     false (record { parts = (named 26 15) ∷ (named 27 17) ∷ []; span = from 15 18 }) (named 0 19) (from 22 23)
     (tree.more_statements (tree.step (from 24 25) (tree.call (named 5 24) tree.no_expressions (from 24 27)) (from 24
     28)) tree.no_statements) (from 29 30) tree.no_catches) (from 0 30)) (wd word.Try 0 ∷ sy symbol.OpenBrace 4 ∷ sy
@@ -272,7 +272,7 @@ try_row = is_statement (is_try refl it_is it_is (empty_block it_is) (more_catche
     (step_statement refl (is_call it_is (no_arguments it_is it_is)) it_is))) it_is) no_catches))
 
 -- try { } catch (final A a) { } catch (B b) { } finally { x--; }
-finally_row : SpellsBlockStatement names (tree.try_finally (from 0 3) (from 4 5) tree.no_statements (from 6 7)
+finally_row : SpellsBlockStatement names texts (tree.try_finally (from 0 3) (from 4 5) tree.no_statements (from 6 7)
     (tree.more_catches true (record { parts = (named 26 21) ∷ []; span = from 21 22 }) (named 0 23) (from 26 27)
     tree.no_statements (from 28 29) (tree.more_catches false (record {
       parts = (named 27 37) ∷ [];
@@ -291,7 +291,7 @@ finally_row = is_statement (is_try_finally it_is it_is (empty_block it_is) (more
     (step_statement refl (is_postfix (lit≤ tt) (is_simple_name it_is) it_is) it_is))) it_is))
 
 -- try { } finally { }
-finally_alone_row : SpellsBlockStatement names (tree.try_finally (from 0 3) (from 4 5) tree.no_statements (from 6 7)
+finally_alone_row : SpellsBlockStatement names texts (tree.try_finally (from 0 3) (from 4 5) tree.no_statements (from 6 7)
     tree.no_catches (from 8 15) (from 16 17) tree.no_statements (from 18 19) (from 0 19)) (wd word.Try 0 ∷ sy
     symbol.OpenBrace 4 ∷ sy symbol.CloseBrace 6 ∷ wd word.Finally 8 ∷ sy symbol.OpenBrace 16 ∷ sy symbol.CloseBrace
     18 ∷ []) []
@@ -299,7 +299,7 @@ finally_alone_row = is_statement (is_try_finally it_is it_is (empty_block it_is)
     it_is))
 
 -- { a = b; ++a; a++; f(); a.f(); super.f(); new A(); new A() { }; }
-steps_row : SpellsBlockStatement names (tree.block (from 0 1) (tree.more_statements (tree.step (from 2 3) (tree.assign
+steps_row : SpellsBlockStatement names texts (tree.block (from 0 1) (tree.more_statements (tree.step (from 2 3) (tree.assign
     None (from 4 5) (tree.name (named 0 2)) (tree.name (named 1 6)) (from 2 7)) (from 2 8)) (tree.more_statements
     (tree.step (from 9 11) (tree.prefix prefix_op.Increment (from 9 11) (tree.name (named 0 11)) (from 9 12)) (from
     9 13)) (tree.more_statements (tree.step (from 14 15) (tree.postfix postfix_op.Increment (from 15 17) (tree.name

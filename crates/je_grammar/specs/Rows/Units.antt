@@ -10,10 +10,10 @@ use Rattle.je_ast.specs.Trees as tree
 use Rattle.je_grammar.specs.Tokens.{it_is, one_closes, first_of_two, first_of_three}
 use Rattle.je_grammar.specs.Types.{simple_name, qualified_name, no_dims, primitive_type, reference_type, plain_ref, ref_with_arguments, last_argument, last_ref, more_refs, plain_parameter, bounded_parameter, last_parameter, more_parameters, no_parameters, some_parameters, word_modifier, no_modifiers, more_modifiers}
 use Rattle.je_grammar.specs.Grammar.{some_extends, some_implements, extends_all, last_variable, without_init, is_field, is_body, no_members, lone_semicolon, more_members, is_class, is_interface, class_declaration, interface_declaration, no_imports, more_imports, no_declarations, semicolon_between, more_declarations, is_unit, SpellsUnit}
-use Rattle.je_grammar.specs.Rows.Scale.{from, id, named, sy, wd, end, names}
+use Rattle.je_grammar.specs.Rows.Scale.{from, id, named, sy, wd, end, names, texts}
 
 -- import a.b.A; import B; ; public final class A extends B implements C, D.E { ; int x; ; } interface I extends J, K { } ;
-unit_row : SpellsUnit names (record {
+unit_row : SpellsUnit names texts (record {
   imports = ((record {
     parts = (named 0 7) ∷ (named 1 9) ∷ (named 26 11) ∷ [];
     span = from 7 12;
@@ -60,7 +60,7 @@ unit_row = is_unit (more_imports it_is (qualified_name it_is it_is (qualified_na
     (simple_name it_is))))) (is_body it_is (no_members it_is)))) (semicolon_between it_is no_declarations)))) it_is
 
 -- class A<T extends G<H<B>>> extends G<T> implements I<A> { } abstract interface I<T, U> extends J<T> { }
-generics_row : SpellsUnit names (record {
+generics_row : SpellsUnit names texts (record {
   imports = [];
   declarations = ((tree.class_declaration [] (named 26 6)
       ((record {
@@ -109,5 +109,5 @@ generics_row = is_unit no_imports (more_declarations (is_class no_modifiers (cla
     it_is)))) no_declarations)) it_is
 
 --
-nothing_row : SpellsUnit names (record { imports = []; declarations = [] }) (end 0 ∷ [])
+nothing_row : SpellsUnit names texts (record { imports = []; declarations = [] }) (end 0 ∷ [])
 nothing_row = is_unit no_imports no_declarations it_is
