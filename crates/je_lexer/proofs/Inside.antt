@@ -2,7 +2,7 @@
 use Rattle.std.proofs.Common.{◌≡◌, ℕ, zero, suc, ◌+◌, ◌-◌, ◌*◌, ◌<◌, ◌≤◌, Bool, true, false, ◌==◌, List, [], ◌∷◌, length, take, drop, Option, Some, None, option_map, if◌then◌else◌, All, refl, sym, ap, subst, arith, length-append}
 use Rattle.std.specs.Char.{digit_value, encode_utf8}
 use Rattle.std.specs.Option.{IfSome}
-use Rattle.std.specs.Str.{chars, encode_utf8_all}
+use Rattle.std.specs.Str.{chars, encode_utf8_all, IsUtf8}
 use Rattle.std.proofs.lemmas.List.Elements.{All-nil, All-cons, All-append}
 use Rattle.std.proofs.lemmas.Str.{encodes-chars}
 use Rattle.je_decode.specs.Decoding.{Decodes, without_mark, ends_in_mark}
@@ -17,7 +17,7 @@ use Rattle.je_lexer.specs.declared.cutting.Cut.{Cut}
 use Rattle.je_lexer.proofs.Total.{cut_grows}
 
 -- the characters stand one behind the other, from one byte to another
-abbrev Stand : ℕ → ℕ → List Character → Type 0
+abbrev pub Stand : ℕ → ℕ → List Character → Type 0
 Stand low high [] = low ≤ high
 Stand low high (c ∷ cs) = (low ≤ c.start) × (c.start ≤ c.end) × Stand c.end high cs
 
@@ -25,19 +25,19 @@ from_lower : (low next high : ℕ) (cs : List Character) → low ≤ next → St
 from_lower low next high [] less h = omega arith
 from_lower low next high (c ∷ cs) less h = (omega (arith, h.0), h.1, h.2)
 
-stand_room : (low high : ℕ) (cs : List Character) → Stand low high cs → low ≤ high
+pub stand_room : (low high : ℕ) (cs : List Character) → Stand low high cs → low ≤ high
 stand_room low high [] h = h
 stand_room low high (c ∷ cs) h = let rest = stand_room c.end high cs h.2 in omega (arith, h.0, h.1)
 
-without_first : (low high : ℕ) (c : Character) (cs : List Character) → Stand low high (c ∷ cs) → Stand low high cs
+pub without_first : (low high : ℕ) (c : Character) (cs : List Character) → Stand low high (c ∷ cs) → Stand low high cs
 without_first low high c cs h = from_lower low c.end high cs (omega (arith, h.0, h.1)) h.2
 
-stand_take : (n low high : ℕ) (cs : List Character) → Stand low high cs → Stand low high (take n cs)
+pub stand_take : (n low high : ℕ) (cs : List Character) → Stand low high cs → Stand low high (take n cs)
 stand_take zero low high cs h = stand_room low high cs h
 stand_take (suc n) low high [] h = h
 stand_take (suc n) low high (c ∷ cs) h = (h.0, h.1, stand_take n c.end high cs h.2)
 
-stand_drop : (n low high : ℕ) (cs : List Character) → Stand low high cs → Stand low high (drop n cs)
+pub stand_drop : (n low high : ℕ) (cs : List Character) → Stand low high cs → Stand low high (drop n cs)
 stand_drop zero low high cs h = h
 stand_drop (suc n) low high [] h = h
 stand_drop (suc n) low high (c ∷ cs) h = stand_drop n low high cs (without_first low high c cs h)
@@ -116,7 +116,7 @@ module _ (high : ℕ) where
       by true = with (low_half e.rest) (low_half_goes e.end e.rest h)
       by false = with None tt
 
-  piece_stands : (low : ℕ) (odd : Bool) (c : Character) (cs : List Character) → Stand low high (c ∷ cs) → IfSome (piece odd c cs) (λ p. Stand low high (p.character ∷ p.rest))
+  pub piece_stands : (low : ℕ) (odd : Bool) (c : Character) (cs : List Character) → Stand low high (c ∷ cs) → IfSome (piece odd c cs) (λ p. Stand low high (p.character ∷ p.rest))
   unfolding piece
   piece_stands low odd c cs h = by (opens odd c cs)
     where
@@ -140,19 +140,22 @@ stand_unmarked low high cs h = by (ends_in_mark cs)
     by true = stand_take (length cs - 1) low high cs h
     by false = h
 
-decoded_stand : (bytes : List ℕ) (all : List Character) → Decodes bytes all → Stand 0 (length bytes) all
+pub raw_stand : (bytes : List ℕ) → IsUtf8 bytes → Stand 0 (length bytes) (placed 0 (chars bytes))
+raw_stand bytes utf8 =
+    let size : 0 + length (encode_utf8_all (chars bytes)) ≡ length bytes = let same = ap length (encodes-chars bytes utf8) in omega arith in
+    rw (← size) (stand_placed 0 (chars bytes))
+
+pub decoded_stand : (bytes : List ℕ) (all : List Character) → Decodes bytes all → Stand 0 (length bytes) all
 decoded_stand bytes all d =
-    let size : 0 + length (encode_utf8_all (chars bytes)) ≡ length bytes = let same = ap length (encodes-chars bytes d.utf8) in omega arith in
-    let raw : Stand 0 (length bytes) (placed 0 (chars bytes)) = rw (← size) (stand_placed 0 (chars bytes)) in
-    rw d.kept (stand_unmarked 0 (length bytes) d.text (translated_stands (length bytes) 0 false (placed 0 (chars bytes)) d.text d.translates raw))
+    rw d.kept (stand_unmarked 0 (length bytes) d.text (translated_stands (length bytes) 0 false (placed 0 (chars bytes)) d.text d.translates (raw_stand bytes d.utf8)))
 
 -- ---- tokens
 
-ends_within : (low high : ℕ) (cs : List Character) → Stand low high cs → (low ≤ end_of low cs) × (end_of low cs ≤ high)
+pub ends_within : (low high : ℕ) (cs : List Character) → Stand low high cs → (low ≤ end_of low cs) × (end_of low cs ≤ high)
 ends_within low high [] h = (omega arith, h)
 ends_within low high (c ∷ cs) h = let k = ends_within c.end high cs h.2 in (omega (arith, h.0, h.1, k.0), k.1)
 
-front_within : (n low high : ℕ) (c : Character) (cs : List Character) → 0 < n → Stand low high (c ∷ cs) → (start_of 0 (take n (c ∷ cs)) ≤ end_of 0 (take n (c ∷ cs))) × (end_of 0 (take n (c ∷ cs)) ≤ high)
+pub front_within : (n low high : ℕ) (c : Character) (cs : List Character) → 0 < n → Stand low high (c ∷ cs) → (start_of 0 (take n (c ∷ cs)) ≤ end_of 0 (take n (c ∷ cs))) × (end_of 0 (take n (c ∷ cs)) ≤ high)
 front_within zero low high c cs some h = absurd (omega arith)
 front_within (suc n) low high c cs some h = let k = ends_within c.end high (take n cs) (stand_take n c.end high cs h.2) in (omega (arith, h.1, k.0), k.1)
 

@@ -5,6 +5,7 @@ pub mod ElementFound
 pub mod ElementLongest
 pub mod ElementRows
 pub mod ElementSymbols
+pub mod FaultInside
 pub mod Giving
 pub mod Inside
 pub mod Longest

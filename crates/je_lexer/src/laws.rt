@@ -21,6 +21,11 @@ pub fn tokens_inside()
     ensures { (file : ℕ) (bytes : List ℕ) (list : List AToken) (names texts : List (List ℕ)) → HasTokens file bytes list names texts → All (IsInside file (length bytes)) list }
 {}
 
+/// A fault's bytes are in the file.
+pub fn fault_inside()
+    ensures { (file : ℕ) (bytes : List ℕ) (kind : Kind) (start end : ℕ) → HasFault file bytes kind start end → (start ≤ end) × (end ≤ length bytes) }
+{}
+
 /// What is cut is white space, a comment or a token, and no longer front of the text is one.
 pub fn longest_piece()
     ensures element { (file_end : ℕ) (c : Character) (cs : List Character) (n : ℕ) → cut_len (cut_at file_end c cs) ≡ Some n → IsElement (take n (c ∷ cs)) }
