@@ -12,3 +12,4 @@ pub mod Longest
 pub mod Refusing
 pub mod Total
 pub mod Underway
+pub mod Whole

@@ -1,6 +1,6 @@
 -- JLS 3.2 and 3.5: the tokens of a source file. Its characters are a row of pieces, and the tokens are the pieces that are
 -- tokens, in order, and then one of kind End.
-use Rattle.std.specs.Prelude.{◌≡◌, ◌+◌, ◌≤◌, ℕ, pos, List, [], ◌∷◌, ◌++◌, length, take, drop, Option, Some, None, Result, Ok, Err}
+use Rattle.std.specs.Prelude.{◌≡◌, ◌+◌, ◌<◌, ◌≤◌, ℕ, pos, List, [], ◌∷◌, ◌++◌, length, take, drop, Option, Some, None, All, Result, Ok, Err}
 use Rattle.je_decode.specs.Decoding.{Decodes, IsNotUtf8, HasBadEscape}
 use Rattle.je_decode.specs.declared.character.Character.{Character}
 use Rattle.je_token.specs.declared.token.Token.{Token}
@@ -52,6 +52,21 @@ pub record HasTokens (file : ℕ) (bytes : List ℕ) (tokens : List Token) (name
 -- The token's bytes are in the file.
 abbrev pub IsInside : ℕ → ℕ → Token → Type 0
 IsInside file file_end t = (t.span.file ≡ file) × (t.span.start ≤ t.span.end) × (t.span.end ≤ file_end)
+
+-- Where the token is a string literal, its value is a place in the texts.
+abbrev pub HasText : List (List ℕ) → Token → Type 0
+HasText texts t = t.kind ≡ kind.TextLiteral → (place : ℕ) × (t.value ≡ pos place) × (place < length texts)
+
+-- The last token is of kind End and no other is; each token's name number is a place in the names, and each string literal's
+-- value a place in the texts.
+pub record AreWhole (tokens : List Token) (names texts : List (List ℕ)) : Type 0 where
+  pub front : List Token
+  pub last : Token
+  pub whole : tokens ≡ front ++ last ∷ []
+  pub ended : last.kind ≡ kind.End
+  pub unended : All (λ t. t.kind ≡ kind.End → ⊥) front
+  pub named : All (λ t. t.text.0 < length names) tokens
+  pub texted : All (HasText texts) tokens
 
 abbrev pub IsTokens : ℕ → List ℕ → Tokens → Type 0
 IsTokens file bytes tokens = HasTokens file bytes tokens.list.items tokens.names tokens.texts.items

@@ -3,7 +3,7 @@
 ghost use Rattle.std.specs.Prelude.{◌≡◌, ◌<◌, ◌≤◌, ◌⊎◌, ℕ, List, ◌∷◌, Some, All, length, take};
 ghost use Rattle.je_lexer.specs.Cutting.{cut_at, cut_len};
 ghost use Rattle.je_lexer.specs.Elements.{IsElement};
-ghost use Rattle.je_lexer.specs.Lexing.{HasTokens, HasFault, IsInside};
+ghost use Rattle.je_lexer.specs.Lexing.{HasTokens, HasFault, IsInside, AreWhole};
 ghost use Rattle.je_lexer.specs.declared.fault.FaultKind.{FaultKind as Kind};
 ghost use Rattle.je_decode.specs.declared.character.Character.{Character};
 ghost use Rattle.je_token.specs.declared.token.Token.{Token as AToken};
@@ -19,6 +19,12 @@ pub fn tokens_or_fault()
 /// Each token's bytes are in the file.
 pub fn tokens_inside()
     ensures { (file : ℕ) (bytes : List ℕ) (list : List AToken) (names texts : List (List ℕ)) → HasTokens file bytes list names texts → All (IsInside file (length bytes)) list }
+{}
+
+/// The last token is of kind End and no other is; each token's name number is a place in the names, and each string literal's
+/// value a place in the texts.
+pub fn tokens_are_whole()
+    ensures { (file : ℕ) (bytes : List ℕ) (list : List AToken) (names texts : List (List ℕ)) → HasTokens file bytes list names texts → AreWhole list names texts }
 {}
 
 /// A fault's bytes are in the file.
