@@ -21,7 +21,9 @@ pub data IsQuoted (quote : ℕ) : List Character → Type 0 where
   plain : {c : Character} {cs : List Character} → IsFalse (ends_line c.code) → IsFalse (c.code == quote) → IsFalse (c.code == 92) → IsQuoted quote cs → IsQuoted quote (c ∷ cs)
   escaped : {backslash c : Character} {cs : List Character} → backslash.code ≡ 92 → IsFalse (ends_line c.code) → IsQuoted quote cs → IsQuoted quote (backslash ∷ c ∷ cs)
 
--- The characters are one input element, all of it and nothing more. White space is one character of it or several.
+-- The characters have the form of one input element, all of it and nothing more. White space is one character of it or several.
+-- The form doesn't judge whether an integer below 2 ^ 64 is within its type, nor what a literal's escapes mean, nor how many
+-- characters a character literal has: `9999999999`, `"\q"` and `'ab'` have it.
 pub data IsElement : List Character → Type 0 where
   white_space : {c : Character} {cs : List Character} → All (λ d. IsTrue (is_space d.code)) (c ∷ cs) → IsElement (c ∷ cs)
   line_comment : {first second : Character} {cs : List Character} → first.code ≡ 47 → second.code ≡ 47 → All (λ d. IsFalse (ends_line d.code)) cs → IsElement (first ∷ second ∷ cs)

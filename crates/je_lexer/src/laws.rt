@@ -32,7 +32,8 @@ pub fn fault_inside()
     ensures { (file : ℕ) (bytes : List ℕ) (kind : Kind) (start end : ℕ) → HasFault file bytes kind start end → (start ≤ end) × (end ≤ length bytes) }
 {}
 
-/// What is cut is white space, a comment or a token, and no longer front of the text is one.
+/// What is cut has the form of white space, a comment or a token, and no longer front of the text has one. The form doesn't judge
+/// whether an integer is within its type, nor what a literal's escapes mean.
 pub fn longest_piece()
     ensures element { (file_end : ℕ) (c : Character) (cs : List Character) (n : ℕ) → cut_len (cut_at file_end c cs) ≡ Some n → IsElement (take n (c ∷ cs)) }
     ensures longest { (file_end : ℕ) (c : Character) (cs : List Character) (n m : ℕ) → cut_len (cut_at file_end c cs) ≡ Some n → n < m → m ≤ length (c ∷ cs) → IsElement (take m (c ∷ cs)) → ⊥ }
