@@ -9,6 +9,7 @@ pub mod FaultInside
 pub mod Giving
 pub mod Inside
 pub mod Longest
+pub mod OneAnswer
 pub mod Refusing
 pub mod Total
 pub mod Underway

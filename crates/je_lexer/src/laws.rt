@@ -16,6 +16,14 @@ pub fn tokens_or_fault()
         HasTokens file bytes list names texts → HasFault file bytes kind start end → ⊥ }
 {}
 
+/// Bytes have one list of tokens at most, with one list of names and one of texts, and one fault at most.
+pub fn one_answer()
+    ensures tokens { (file : ℕ) (bytes : List ℕ) (list list1 : List AToken) (names texts names1 texts1 : List (List ℕ)) →
+        HasTokens file bytes list names texts → HasTokens file bytes list1 names1 texts1 → (list ≡ list1) × (names ≡ names1) × (texts ≡ texts1) }
+    ensures fault { (file : ℕ) (bytes : List ℕ) (kind kind1 : Kind) (start end start1 end1 : ℕ) →
+        HasFault file bytes kind start end → HasFault file bytes kind1 start1 end1 → (kind ≡ kind1) × (start ≡ start1) × (end ≡ end1) }
+{}
+
 /// Each token's bytes are in the file.
 pub fn tokens_inside()
     ensures { (file : ℕ) (bytes : List ℕ) (list : List AToken) (names texts : List (List ℕ)) → HasTokens file bytes list names texts → All (IsInside file (length bytes)) list }
