@@ -8,6 +8,7 @@ pub mod ElementSymbols
 pub mod FaultInside
 pub mod Giving
 pub mod Inside
+pub mod Keywords
 pub mod Longest
 pub mod OneAnswer
 pub mod Refusing

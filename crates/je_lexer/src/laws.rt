@@ -6,6 +6,9 @@ ghost use Rattle.je_lexer.specs.Elements.{IsElement};
 ghost use Rattle.je_lexer.specs.Lexing.{HasTokens, HasFault, IsInside, AreWhole};
 ghost use Rattle.je_lexer.specs.declared.fault.FaultKind.{FaultKind as Kind};
 ghost use Rattle.je_decode.specs.declared.character.Character.{Character};
+ghost use Rattle.je_lexer.specs.Words.{keyword_of};
+ghost use Rattle.je_token.specs.Texts.{keyword_text};
+ghost use Rattle.je_token.specs.declared.keyword.Keyword.{Keyword as AKeyword};
 ghost use Rattle.je_token.specs.declared.token.Token.{Token as AToken};
 
 /// Bytes have tokens or a fault, and not both.
@@ -38,6 +41,12 @@ pub fn tokens_are_whole()
 /// A fault's bytes are in the file.
 pub fn fault_inside()
     ensures { (file : ℕ) (bytes : List ℕ) (kind : Kind) (start end : ℕ) → HasFault file bytes kind start end → (start ≤ end) × (end ≤ length bytes) }
+{}
+
+/// A word is read as a keyword just where it is that keyword's text.
+pub fn keyword_spelled()
+    ensures spelled { (text : List ℕ) (k : AKeyword) → keyword_of text ≡ Some k → text ≡ keyword_text k }
+    ensures found { (k : AKeyword) → keyword_of (keyword_text k) ≡ Some k }
 {}
 
 /// What is cut has the form of white space, a comment or a token, and no longer front of the text has one. The form doesn't judge

@@ -24,7 +24,8 @@ mod words;
 pub use fault::{FaultKind, LexFault};
 pub use je_token::{Keyword, Symbol, Token, TokenKind};
 pub use laws::{
-    fault_inside, longest_piece, one_answer, tokens_are_whole, tokens_inside, tokens_or_fault,
+    fault_inside, keyword_spelled, longest_piece, one_answer, tokens_are_whole, tokens_inside,
+    tokens_or_fault,
 };
 pub use lexing::Tokens;
 pub use reading::lex;
