@@ -1,5 +1,6 @@
 //! Texts with their tokens or their fault.
 use super::*;
+use je_core::Span;
 use std::test::Fail;
 
 // Each token as a letter and its bytes: k keyword, i identifier, s symbol, n int, l long, c character, t text, e end.
@@ -18,7 +19,7 @@ fn letter(kind: TokenKind) -> char {
 
 #[test]
 fn gives_tokens(rt: HostRuntime) -> Result<(), Fail> {
-    let rows: [(&str, &str); 46] = [
+    let rows: [(&str, &str); 70] = [
         ("", "e0..0"),
         ("class A { }", "k0..5 i6..7 s8..9 s10..11 e11..11"),
         (
@@ -75,6 +76,36 @@ fn gives_tokens(rt: HostRuntime) -> Result<(), Fail> {
         ("a\u{1a}", "i0..1 e2..2"),
         ("a\\u001a", "i0..1 e7..7"),
         ("\u{10400}x", "i0..5 e5..5"),
+        ("a\tb\u{c}c", "i0..1 i2..3 i4..5 e5..5"),
+        ("// a\rb", "i5..6 e6..6"),
+        ("a //", "i0..1 e4..4"),
+        ("/* */ a */", "i6..7 s8..9 s9..10 e10..10"),
+        ("/* \" ' */a//'", "i9..10 e13..13"),
+        ("_a $b _ $", "i0..2 i3..5 i6..7 i8..9 e9..9"),
+        ("\u{e9}t\u{4e2d}", "i0..6 e6..6"),
+        ("a\u{300}\u{661}b", "i0..6 e6..6"),
+        ("\\ud801\\udc00x", "i0..13 e13..13"),
+        ("...5", "s0..3 n3..4=5 e4..4"),
+        ("0X1f", "n0..4=31 e4..4"),
+        ("1l 0x1l 01l", "l0..2=1 l3..7=1 l8..11=1 e11..11"),
+        ("2147483647", "n0..10=2147483647 e10..10"),
+        ("017777777777", "n0..12=2147483647 e12..12"),
+        ("020000000000", "n0..12=-2147483648 e12..12"),
+        ("0x80000000", "n0..10=-2147483648 e10..10"),
+        ("040000000000L", "l0..13=4294967296 e13..13"),
+        ("9223372036854775807L", "l0..20=9223372036854775807 e20..20"),
+        (
+            "0777777777777777777777L",
+            "l0..23=9223372036854775807 e23..23",
+        ),
+        (
+            "01000000000000000000000L",
+            "l0..24=-9223372036854775808 e24..24",
+        ),
+        ("01777777777777777777777L", "l0..24=-1 e24..24"),
+        ("0x7fffffffffffffffL", "l0..19=9223372036854775807 e19..19"),
+        ("0x8000000000000000L", "l0..19=-9223372036854775808 e19..19"),
+        ("'\\u005c''", "c0..9=39 e9..9"),
     ];
     for (text, expected) in rows {
         assert!(rt; text.len() <= 1_048_576);
@@ -111,7 +142,7 @@ fn gives_tokens(rt: HostRuntime) -> Result<(), Fail> {
 
 #[test]
 fn gives_faults(rt: HostRuntime) -> Result<(), Fail> {
-    let rows: [(&[u8], FaultKind, u32, u32); 50] = [
+    let rows: [(&[u8], FaultKind, u32, u32); 82] = [
         (b"a\xff", FaultKind::NotUtf8, 1, 2),
         (b"\\u12 \xc3", FaultKind::NotUtf8, 5, 6),
         (b"'\xe2\x82", FaultKind::NotUtf8, 1, 2),
@@ -162,16 +193,54 @@ fn gives_faults(rt: HostRuntime) -> Result<(), Fail> {
         (b"9223372036854775809L", FaultKind::BadLiteral, 0, 20),
         (b"0x100000000", FaultKind::BadLiteral, 0, 11),
         (b"0x10000000000000000L", FaultKind::BadLiteral, 0, 20),
+        (b"a\x0bb", FaultKind::BadChar, 1, 2),
+        (b"\x00", FaultKind::BadChar, 0, 1),
+        (b"\xcc\x80a", FaultKind::BadChar, 0, 2),
+        (b"\xd9\xa1", FaultKind::BadChar, 0, 2),
+        (b"\\u0023", FaultKind::BadChar, 0, 6),
+        (b"\\u001a\x1a", FaultKind::BadChar, 0, 6),
+        (b"# 09", FaultKind::BadChar, 0, 1),
+        (b"\\u002f* a", FaultKind::OpenComment, 0, 9),
+        (b"\\u0022a", FaultKind::OpenText, 0, 7),
+        (b"\"\\u005cq\"", FaultKind::BadEscape, 1, 7),
+        (b"\"\\u005cu0041\"", FaultKind::BadEscape, 1, 7),
+        (b"\"\\s\"", FaultKind::BadEscape, 1, 2),
+        (b"\"a\\q\" #", FaultKind::BadEscape, 2, 3),
+        (b"'\\ud801\\udc00'", FaultKind::BadLiteral, 0, 14),
+        (b"09", FaultKind::BadLiteral, 0, 2),
+        (b"09 #", FaultKind::BadLiteral, 0, 2),
+        (b"1_000", FaultKind::BadLiteral, 0, 5),
+        (b"0b1", FaultKind::BadLiteral, 0, 3),
+        (b"1\xcc\x80", FaultKind::BadLiteral, 0, 3),
+        (b"1f", FaultKind::BadLiteral, 0, 2),
+        (b"1d", FaultKind::BadLiteral, 0, 2),
+        (b"1e+5", FaultKind::BadLiteral, 0, 2),
+        (b"1.5e+3", FaultKind::BadLiteral, 0, 4),
+        (b"1..2", FaultKind::BadLiteral, 0, 4),
+        (b"..5", FaultKind::BadLiteral, 1, 3),
+        (b"0x1P3", FaultKind::BadLiteral, 0, 5),
+        (b"0x1.p1", FaultKind::BadLiteral, 0, 6),
+        (b"0x1.8p+1", FaultKind::BadLiteral, 0, 6),
+        (b"0x1.8", FaultKind::BadLiteral, 3, 5),
+        (b"0x1.8p", FaultKind::BadLiteral, 3, 6),
+        (b"040000000000", FaultKind::BadLiteral, 0, 12),
+        (b"02000000000000000000000L", FaultKind::BadLiteral, 0, 24),
     ];
     for (bytes, kind, start, end) in rows {
         assert!(rt; bytes.len() <= 1_048_576);
-        match lex(rt.alloc(), 0, bytes) {
+        match lex(rt.alloc(), 3, bytes) {
             Ok(_) => return Err("tokens")?,
             Err(LexFault::Memory) => return Err("memory")?,
             Err(LexFault::At { kind: found, span }) => {
                 assert_eq!(rt; found, kind, "{start}..{end}");
-                assert_eq!(rt; span.start, start);
-                assert_eq!(rt; span.end, end);
+                assert_eq!(rt;
+                    span,
+                    Span {
+                        file: 3,
+                        start,
+                        end
+                    }
+                );
             }
         }
     }
@@ -180,7 +249,7 @@ fn gives_faults(rt: HostRuntime) -> Result<(), Fail> {
 
 #[test]
 fn reads_texts(rt: HostRuntime) -> Result<(), Fail> {
-    let rows: [(&str, &[u16]); 12] = [
+    let rows: [(&str, &[u16]); 20] = [
         ("\"\"", &[]),
         ("\"ab\"", &[97, 98]),
         (
@@ -196,6 +265,14 @@ fn reads_texts(rt: HostRuntime) -> Result<(), Fail> {
         ("\"\u{10400}\"", &[0xD801, 0xDC00]),
         ("\"\\ud801\\udc00\"", &[0xD801, 0xDC00]),
         ("\"\\ud801\"", &[0xD801]),
+        ("\"\\\\u0041\"", &[92, 117, 48, 48, 52, 49]),
+        ("\"\\\\\\u0041\"", &[92, 65]),
+        ("\"\\\\\\\\u0041\"", &[92, 92, 117, 48, 48, 52, 49]),
+        ("\"\\\\\\\\\\u0041\"", &[92, 92, 65]),
+        ("\"\\u005c\\u005c\"", &[92]),
+        ("\"\\udc00\\ud801\"", &[0xDC00, 0xD801]),
+        ("\"\\1234\\477\"", &[83, 52, 39, 55]),
+        ("\"//\"", &[47, 47]),
     ];
     for (text, expected) in rows {
         assert!(rt; text.len() <= 1_048_576);
