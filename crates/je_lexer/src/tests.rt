@@ -1,6 +1,6 @@
 //! Texts with their tokens or their fault.
 use super::*;
-use je_core::Span;
+use je_core::{NameId, Span};
 use std::test::Fail;
 
 // Each token as a letter and its bytes: k keyword, i identifier, s symbol, n int, l long, c character, t text, e end.
@@ -286,6 +286,95 @@ fn reads_texts(rt: HostRuntime) -> Result<(), Fail> {
                 return Err("a fault")?;
             }
         }
+    }
+    Ok(())
+}
+
+#[test]
+fn carries_names_places_and_ends(rt: HostRuntime) -> Result<(), Fail> {
+    // Of each token its first byte, its end, its name, its value, and the ends of its first two characters.
+    let rows: [(u32, u32, u32, i128, u32, u32); 8] = [
+        (0, 1, 1, 0, 1, 1),
+        (2, 3, 2, 0, 3, 3),
+        (4, 5, 1, 0, 5, 5),
+        (6, 8, 0, 0, 7, 8),
+        (9, 12, 0, 0, 10, 11),
+        (13, 16, 0, 1, 14, 15),
+        (17, 24, 0, 0, 18, 24),
+        (24, 24, 0, 0, 24, 24),
+    ];
+    let Ok(tokens) = lex(rt.alloc(), 7, b"a b a >> \"x\" \"y\" >\\u003e") else {
+        return Err("no tokens")?;
+    };
+    assert_eq!(rt; tokens.list.len(), rows.len());
+    for (token, (start, end, name, value, first, second)) in tokens.list.iter().zip(rows) {
+        assert_eq!(rt;
+            token.span,
+            Span {
+                file: 7,
+                start,
+                end
+            }
+        );
+        assert_eq!(rt; token.text, NameId(name), "{start}..{end}");
+        assert_eq!(rt; token.value, value, "{start}..{end}");
+        assert_eq!(rt; token.first_end, first, "{start}..{end}");
+        assert_eq!(rt; token.second_end, second, "{start}..{end}");
+    }
+    assert_eq!(rt; tokens.names.len(), 3);
+    assert!(rt; tokens.names.text(NameId(0)) == Some(""));
+    assert!(rt; tokens.names.text(NameId(1)) == Some("a"));
+    assert!(rt; tokens.names.text(NameId(2)) == Some("b"));
+    match tokens.texts.as_slice() {
+        [x, y] => {
+            assert!(rt; x.as_slice() == [120].as_slice());
+            assert!(rt; y.as_slice() == [121].as_slice());
+        }
+        _ => return Err("not two texts")?,
+    }
+    Ok(())
+}
+
+#[test]
+fn tells_words_and_symbols(rt: HostRuntime) -> Result<(), Fail> {
+    let rows: [(&str, &str); 2] = [
+        (
+            "abstract assert boolean break byte case catch char class const continue default do \
+             double else enum extends final finally float for goto if implements import \
+             instanceof int interface long native new package private protected public return \
+             short static strictfp super switch synchronized this throw throws transient try void \
+             volatile while true false null",
+            "Abstract Assert Boolean Break Byte Case Catch Char Class Const Continue Default Do \
+             Double Else Enum Extends Final Finally Float For Goto If Implements Import \
+             InstanceOf Int Interface Long Native New Package Private Protected Public Return \
+             Short Static StrictFp Super Switch Synchronized This Throw Throws Transient Try Void \
+             Volatile While True False Null End",
+        ),
+        (
+            "( ) { } [ ] ; , . ... @ = > < ! ~ ? : == <= >= != && || ++ -- + - * / & | ^ % << >> \
+             >>> += -= *= /= &= |= ^= %= <<= >>= >>>=",
+            "OpenParen CloseParen OpenBrace CloseBrace OpenBracket CloseBracket Semicolon Comma \
+             Dot Ellipsis At Assign Greater Less Not Tilde Question Colon Equal LessEqual \
+             GreaterEqual NotEqual AndAnd OrOr Increment Decrement Plus Minus Star Slash And Or \
+             Caret Percent ShiftLeft ShiftRight UnsignedShiftRight PlusAssign MinusAssign \
+             StarAssign SlashAssign AndAssign OrAssign CaretAssign PercentAssign ShiftLeftAssign \
+             ShiftRightAssign UnsignedShiftRightAssign End",
+        ),
+    ];
+    for (text, expected) in rows {
+        assert!(rt; text.len() <= 1_048_576);
+        let Ok(tokens) = lex(rt.alloc(), 0, text.as_bytes()) else {
+            return Err("no tokens")?;
+        };
+        let mut found = String::new(rt.alloc());
+        for token in &tokens.list {
+            match token.kind {
+                TokenKind::Keyword(keyword) => write!(found, "{keyword:?} ")?,
+                TokenKind::Symbol(symbol) => write!(found, "{symbol:?} ")?,
+                kind => write!(found, "{kind:?}")?,
+            }
+        }
+        assert!(rt; found.as_str() == expected, "{found}");
     }
     Ok(())
 }
