@@ -1,5 +1,6 @@
 -- From what each reading says of a file to what the file comes to.
-use Rattle.std.proofs.Common.{◌≡◌, ℕ, ◌≤◌, List, [], Result, Ok, Err, IfOk, sym, subst}
+use Rattle.std.proofs.Common.{◌≡◌, ℕ, ◌≤◌, List, [], Result, Ok, Err, IfOk, codes, sym, subst}
+use Rattle.je_core.specs.Names.{interned}
 use Rattle.je_core.specs.declared.program.Program.{Program}
 use Rattle.je_core.specs.declared.value.Value.TheVariants.{Null}
 use Rattle.je_java.specs.Steps.{Done, Spent as SpentWith}
@@ -38,14 +39,14 @@ module _ (bytes : List ℕ) where
           let tree = unique o.1.0 one tokens (subst (Spells o.1.0) same.0 o.1.1.spells) spells in
           none (subst (λ t. Fits names t) tree (subst (λ ns. Fits ns o.1.0) same.1 o.1.1.fits))
 
-      pub with-program : (all_names : List (List ℕ)) (program : Program) (main : ℕ) → height one ≤ max_height → Fits names one → Elaborates all_names one program → IsMain names (members_of one) main →
+      pub with-program : (program : Program) (main : ℕ) → height one ≤ max_height → Fits names one → Elaborates (interned names (codes "new")) one program → IsMain names (members_of one) main →
           (answer : Answer) → IsAnswerTo (call program run_units one_class main Null [] []) answer → Answers bytes answer
       unfolding Answers
-      with-program all_names program main low fits elaborates is_main (Reply value) a =
-          (a.0, record { names = names; one = one; is = record { tokens = tokens; lexes = lexes; spells = spells; low = low; fits = fits }; all_names = all_names; program = program; elaborates = elaborates; main = main; is_main = is_main; ends = a.1 })
-      with-program all_names program main low fits elaborates is_main Spent a =
-          (a.0, record { names = names; one = one; is = record { tokens = tokens; lexes = lexes; spells = spells; low = low; fits = fits }; all_names = all_names; program = program; elaborates = elaborates; main = main; is_main = is_main; ends = a.1 })
-      with-program all_names program main low fits elaborates is_main NotBuilt a = absurd a
+      with-program program main low fits elaborates is_main (Reply value) a =
+          (a.0, record { names = names; one = one; is = record { tokens = tokens; lexes = lexes; spells = spells; low = low; fits = fits }; program = program; elaborates = elaborates; main = main; is_main = is_main; ends = a.1 })
+      with-program program main low fits elaborates is_main Spent a =
+          (a.0, record { names = names; one = one; is = record { tokens = tokens; lexes = lexes; spells = spells; low = low; fits = fits }; program = program; elaborates = elaborates; main = main; is_main = is_main; ends = a.1 })
+      with-program program main low fits elaborates is_main NotBuilt a = absurd a
 
 pub one-file : (bytes : List ℕ) (names names' : List (List ℕ)) (one one' : OneTree) → IsOneOf bytes names one → IsOneOf bytes names' one' → (names ≡ names') × (one ≡ one')
 one-file bytes names names' one one' is is' =

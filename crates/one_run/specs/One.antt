@@ -1,5 +1,6 @@
 -- What a file comes to: where it is a One, the call of its `main`.
-use Rattle.std.specs.Prelude.{◌≡◌, ℕ, ◌≤◌, List, []}
+use Rattle.std.specs.Prelude.{◌≡◌, ℕ, ◌≤◌, List, [], codes}
+use Rattle.je_core.specs.Names.{interned}
 use Rattle.je_core.specs.declared.program.Program.{Program}
 use Rattle.je_core.specs.declared.value.Value.TheVariants.{Int, Null}
 use Rattle.je_java.specs.Steps.{State, Answer as Outcome, Done, Spent as SpentWith}
@@ -35,15 +36,14 @@ pub record IsOneOf (bytes : List ℕ) (names : List (List ℕ)) (one : OneTree) 
 unfoldable pub IsOne : List ℕ → Type 0
 IsOne bytes = (names : List (List ℕ)) × ((one : OneTree) × IsOneOf bytes names one)
 
--- the file is a One, and the call of its `main`, from a world without objects and with the units of a run, ends so;
--- `all_names` has the names that its core program needs beside its own
+-- the file is a One, and the call of its `main`, from a world without objects and with the units of a run, ends so; its
+-- core program has one name beside those of the file, that of constructors
 pub record Runs (bytes : List ℕ) (outcome : Outcome) : Type 0 where
   pub names : List (List ℕ)
   pub one : OneTree
   pub is : IsOneOf bytes names one
-  pub all_names : List (List ℕ)
   pub program : Program
-  pub elaborates : Elaborates all_names one program
+  pub elaborates : Elaborates (interned names (codes "new")) one program
   pub main : ℕ
   pub is_main : IsMain names (members_of one) main
   pub ends : call program run_units one_class main Null [] [] ≡ outcome

@@ -1,6 +1,7 @@
 -- A file is a One where each reading says so, and none where one doesn't.
-use Rattle.std.proofs.Common.{◌≡◌, ◌≤◌, ◌+◌, ℕ, List, [], length, Some, None, IfOk, sym, ap, ◌∙◌, subst, arith}
+use Rattle.std.proofs.Common.{◌≡◌, ◌≤◌, ◌+◌, ℕ, List, [], length, Some, None, IfOk, codes, sym, ap, ◌∙◌, subst, arith}
 use Rattle.std.specs.Prelude.{IfSome, IfNone, OnSome}
+use Rattle.je_core.specs.Names.{interned}
 use Rattle.one_tokens.specs.declared.token.Token.{Token}
 use Rattle.one_tokens.specs.Lexing.{Lexes}
 use Rattle.one_syntax.specs.Grammar.{Spells}
@@ -78,10 +79,12 @@ returns-in-Some-3 c =
     let spells = subst (Spells one) c.deref.ensures.value spelled in
     let low = subst (λ o. IfSome o (λ t. height (view_one t) ≤ 300)) c.in-Some-2.is c.in_ok-one.ensures.low in
     let fits = subst (λ o. OnSome o (Fits names one)) c.in-Some-3.is c.in_ok-built.ensures.fits in
-    let elaborates = subst (λ o. IfSome o (λ b. Elaborates c.build.new.names one b.program)) c.in-Some-3.is c.in_ok-built.ensures.elaborates in
+    let with_new = subst (λ o. OnSome o (c.build.new.names ≡ interned names (codes "new"))) c.in-Some-3.is c.in_ok-built.ensures.names_some in
+    let elaborates = subst (λ ns. Elaborates ns one c.in-Some-3.built.program) with_new
+    (subst (λ o. IfSome o (λ b. Elaborates c.build.new.names one b.program)) c.in-Some-3.is c.in_ok-built.ensures.elaborates) in
     let is_main = subst (λ o. IfSome o (λ b. IsMain names (members_of one) b.main)) c.in-Some-3.is c.in_ok-built.ensures.main in
     let built = c.in-Some-3.built in
-    ok-then c.run_main.result _ _ c.run_main.ensures (λ answer a. with-program bytes tokens names lexes one spells c.build.new.names built.program built.main low fits elaborates is_main answer a)
+    ok-then c.run_main.result _ _ c.run_main.ensures (λ answer a. with-program bytes tokens names lexes one spells built.program built.main low fits elaborates is_main answer a)
 
 pub returns : goal.returns
 returns c =
