@@ -1,6 +1,7 @@
 pub mod Sizes
 pub mod AtLeastOne
 pub mod Refusals
+pub mod Refused
 pub mod Through
 pub mod EndsOf
 pub mod BeginsOf
