@@ -25,7 +25,7 @@ use Rattle.je_grammar.specs.Grammar.{Spells, is_assign, is_conditional, is_binar
 use Rattle.je_grammar.specs.Grammar.{SpellsStatement, is_try, step_statement, SpellsGroups, last_labels, more_groups, SpellsBlockStatement, is_local_class, is_statement}
 use Rattle.je_grammar.specs.Grammar.{class_declaration, interface_declaration, SpellsDeclaration, is_class, is_interface, SpellsDeclarations, no_declarations, semicolon_between, more_declarations}
 
--- JLS 4.5.1: `G<int>` is no type, wherever among the arguments the `int` stands.
+-- JLS 4.5.1: `int` is no type argument, and `G<int>` no type.
 pub no_primitive_argument : {p : Primitive} {q c : Span} {us : Writtens} {ts rest : List Token} →
     ¬ SpellsTypeArguments (more_types (primitive p 0 q) us) c ts rest
 no_primitive_argument (last_argument p _ _) = cc
