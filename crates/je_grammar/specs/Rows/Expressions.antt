@@ -1,6 +1,6 @@
 -- Worked rows: expressions. Above each row stands its text. The tree has the bytes of its tokens, and a name's number is its
 -- place in `names`.
-use Rattle.std.specs.Prelude.{refl, [], ◌∷◌, Some, None, true, false, pos}
+use Rattle.std.specs.Prelude.{refl, [], ◌∷◌, Some, None, true, false, pos, codes}
 use Rattle.std.proofs.Common.{lit≤, lit<}
 use Rattle.je_token.specs.declared.keyword.Keyword.TheVariants as word
 use Rattle.je_token.specs.declared.symbol.Symbol.TheVariants as symbol
@@ -371,3 +371,177 @@ anonymous_row : Spells names texts (tree.call (named 5 0) (tree.more_expressions
 anonymous_row = is_call it_is (some_arguments it_is (last_expression (is_new_anonymous it_is (plain_ref (simple_name
     it_is)) (no_arguments it_is it_is) (is_body it_is (more_members (is_field no_modifiers (primitive_type it_is
     no_dims) (last_variable it_is no_dims without_init) it_is) (no_members it_is))))) it_is)
+
+-- (A) ~x
+tilde_cast_row : Spells names texts (tree.cast (class_type (record { parts = (named 26 1) ∷ []; span = from 1 2 })
+    no_types 0 (from 1 2)) (tree.prefix prefix_op.Tilde (from 4 5) (tree.name (named 23 5)) (from 4 6)) (from 0 6))
+    (sy symbol.OpenParen 0 ∷ id 26 1 ∷ sy symbol.CloseParen 2 ∷ sy symbol.Tilde 4 ∷ id 23 5 ∷ []) []
+tilde_cast_row = is_class_cast refl it_is (simple_name it_is) no_dims it_is
+    (is_prefix (lit≤ tt) it_is (is_simple_name it_is))
+
+-- f((A) 1, (A) 2L, (A) 'x', (A) "x", (A) true, (A) false, (A) null)
+literal_casts_row : Spells names texts (tree.call (named 5 0) (tree.more_expressions
+    (tree.cast (class_type (record { parts = (named 26 3) ∷ []; span = from 3 4 }) no_types 0 (from 3 4))
+    (tree.literal (lit.Int (pos 1)) (from 6 7)) (from 2 7)) (tree.more_expressions
+    (tree.cast (class_type (record { parts = (named 26 10) ∷ []; span = from 10 11 }) no_types 0 (from 10 11))
+    (tree.literal (lit.Long (pos 2)) (from 13 15)) (from 9 15)) (tree.more_expressions
+    (tree.cast (class_type (record { parts = (named 26 18) ∷ []; span = from 18 19 }) no_types 0 (from 18 19))
+    (tree.literal (lit.Char (pos 120)) (from 21 24)) (from 17 24)) (tree.more_expressions
+    (tree.cast (class_type (record { parts = (named 26 27) ∷ []; span = from 27 28 }) no_types 0 (from 27 28))
+    (tree.literal (lit.Text (codes "x")) (from 30 33)) (from 26 33))
+    (tree.more_expressions (tree.cast (class_type (record { parts = (named 26 36) ∷ []; span = from 36 37 }) no_types 0
+    (from 36 37)) (tree.literal (lit.Bool true) (from 39 43)) (from 35 43))
+    (tree.more_expressions (tree.cast (class_type (record { parts = (named 26 46) ∷ []; span = from 46 47 }) no_types 0
+    (from 46 47)) (tree.literal (lit.Bool false) (from 49 54)) (from 45 54))
+    (tree.more_expressions (tree.cast (class_type (record { parts = (named 26 57) ∷ []; span = from 57 58 }) no_types 0
+    (from 57 58)) (tree.literal lit.Null (from 60 64)) (from 56 64)) tree.no_expressions))))))) (from 0 65)) (id 5 0 ∷
+    sy symbol.OpenParen 1 ∷ sy symbol.OpenParen 2 ∷ id 26 3 ∷ sy symbol.CloseParen 4 ∷ num kind.IntLiteral 1 6 7 ∷
+    sy symbol.Comma 7 ∷ sy symbol.OpenParen 9 ∷ id 26 10 ∷ sy symbol.CloseParen 11 ∷ num kind.LongLiteral 2 13 15 ∷
+    sy symbol.Comma 15 ∷ sy symbol.OpenParen 17 ∷ id 26 18 ∷ sy symbol.CloseParen 19 ∷ num kind.CharLiteral 120 21 24 ∷
+    sy symbol.Comma 24 ∷ sy symbol.OpenParen 26 ∷ id 26 27 ∷ sy symbol.CloseParen 28 ∷ num kind.TextLiteral 0 30 33 ∷
+    sy symbol.Comma 33 ∷ sy symbol.OpenParen 35 ∷ id 26 36 ∷ sy symbol.CloseParen 37 ∷ wd word.True 39 ∷
+    sy symbol.Comma 43 ∷ sy symbol.OpenParen 45 ∷ id 26 46 ∷ sy symbol.CloseParen 47 ∷ wd word.False 49 ∷
+    sy symbol.Comma 54 ∷ sy symbol.OpenParen 56 ∷ id 26 57 ∷ sy symbol.CloseParen 58 ∷ wd word.Null 60 ∷
+    sy symbol.CloseParen 64 ∷ []) []
+literal_casts_row = is_call it_is (some_arguments it_is (more_expressions
+    (is_class_cast refl it_is (simple_name it_is) no_dims it_is (is_literal (int_literal it_is))) it_is
+    (more_expressions (is_class_cast refl it_is (simple_name it_is) no_dims it_is (is_literal (long_literal it_is)))
+    it_is (more_expressions (is_class_cast refl it_is (simple_name it_is) no_dims it_is
+    (is_literal (char_literal it_is))) it_is (more_expressions (is_class_cast refl it_is (simple_name it_is) no_dims
+    it_is (is_literal (text_literal it_is refl refl))) it_is (more_expressions
+    (is_class_cast refl it_is (simple_name it_is) no_dims it_is (is_literal (true_literal it_is))) it_is
+    (more_expressions (is_class_cast refl it_is (simple_name it_is) no_dims it_is (is_literal (false_literal it_is)))
+    it_is (last_expression (is_class_cast refl it_is (simple_name it_is) no_dims it_is
+    (is_literal (null_literal it_is)))))))))) it_is)
+
+-- (A) this
+this_cast_row : Spells names texts (tree.cast (class_type (record { parts = (named 26 1) ∷ []; span = from 1 2 })
+    no_types 0 (from 1 2)) (tree.this (from 4 8)) (from 0 8)) (sy symbol.OpenParen 0 ∷ id 26 1 ∷
+    sy symbol.CloseParen 2 ∷ wd word.This 4 ∷ []) []
+this_cast_row = is_class_cast refl it_is (simple_name it_is) no_dims it_is (is_this it_is)
+
+-- (A) super.x
+super_cast_row : Spells names texts (tree.cast (class_type (record { parts = (named 26 1) ∷ []; span = from 1 2 })
+    no_types 0 (from 1 2)) (tree.super_select (from 4 9) (named 23 10) (from 4 11)) (from 0 11))
+    (sy symbol.OpenParen 0 ∷ id 26 1 ∷ sy symbol.CloseParen 2 ∷ wd word.Super 4 ∷ sy symbol.Dot 9 ∷ id 23 10 ∷ []) []
+super_cast_row = is_class_cast refl it_is (simple_name it_is) no_dims it_is (is_super_select it_is it_is it_is)
+
+-- (A) new B()
+new_cast_row : Spells names texts (tree.cast (class_type (record { parts = (named 26 1) ∷ []; span = from 1 2 })
+    no_types 0 (from 1 2))
+    (tree.new_object (from 4 7) (class_type (record { parts = (named 27 8) ∷ []; span = from 8 9 }) no_types 0
+    (from 8 9)) tree.no_expressions (from 4 11)) (from 0 11)) (sy symbol.OpenParen 0 ∷ id 26 1 ∷
+    sy symbol.CloseParen 2 ∷ wd word.New 4 ∷ id 27 8 ∷ sy symbol.OpenParen 9 ∷ sy symbol.CloseParen 10 ∷ []) []
+new_cast_row = is_class_cast refl it_is (simple_name it_is) no_dims it_is
+    (is_new it_is (plain_ref (simple_name it_is)) (no_arguments it_is it_is))
+
+-- (A) (B) x
+cast_of_cast_row : Spells names texts (tree.cast (class_type (record { parts = (named 26 1) ∷ []; span = from 1 2 })
+    no_types 0 (from 1 2)) (tree.cast (class_type (record { parts = (named 27 5) ∷ []; span = from 5 6 }) no_types 0
+    (from 5 6)) (tree.name (named 23 8)) (from 4 9)) (from 0 9)) (sy symbol.OpenParen 0 ∷ id 26 1 ∷
+    sy symbol.CloseParen 2 ∷ sy symbol.OpenParen 4 ∷ id 27 5 ∷ sy symbol.CloseParen 6 ∷ id 23 8 ∷ []) []
+cast_of_cast_row = is_class_cast refl it_is (simple_name it_is) no_dims it_is
+    (is_class_cast refl it_is (simple_name it_is) no_dims it_is (is_simple_name it_is))
+
+-- (a.A) x
+qualified_cast_row : Spells names texts
+    (tree.cast (class_type (record { parts = (named 0 1) ∷ (named 26 3) ∷ []; span = from 1 4 }) no_types 0 (from 1 4))
+    (tree.name (named 23 6)) (from 0 7)) (sy symbol.OpenParen 0 ∷ id 0 1 ∷ sy symbol.Dot 2 ∷ id 26 3 ∷
+    sy symbol.CloseParen 4 ∷ id 23 6 ∷ []) []
+qualified_cast_row = is_class_cast refl it_is (qualified_name it_is it_is (simple_name it_is)) no_dims it_is
+    (is_simple_name it_is)
+
+-- (boolean) (byte) (short) (char) (int) (long) x
+primitive_casts_row : Spells names texts (tree.cast (primitive prim.Boolean 0 (from 1 8))
+    (tree.cast (primitive prim.Byte 0 (from 11 15)) (tree.cast (primitive prim.Short 0 (from 18 23))
+    (tree.cast (primitive prim.Char 0 (from 26 30)) (tree.cast (primitive prim.Int 0 (from 33 36))
+    (tree.cast (primitive prim.Long 0 (from 39 43)) (tree.name (named 23 45)) (from 38 46)) (from 32 46)) (from 25 46))
+    (from 17 46)) (from 10 46)) (from 0 46)) (sy symbol.OpenParen 0 ∷ wd word.Boolean 1 ∷ sy symbol.CloseParen 8 ∷
+    sy symbol.OpenParen 10 ∷ wd word.Byte 11 ∷ sy symbol.CloseParen 15 ∷ sy symbol.OpenParen 17 ∷ wd word.Short 18 ∷
+    sy symbol.CloseParen 23 ∷ sy symbol.OpenParen 25 ∷ wd word.Char 26 ∷ sy symbol.CloseParen 30 ∷
+    sy symbol.OpenParen 32 ∷ wd word.Int 33 ∷ sy symbol.CloseParen 36 ∷ sy symbol.OpenParen 38 ∷ wd word.Long 39 ∷
+    sy symbol.CloseParen 43 ∷ id 23 45 ∷ []) []
+primitive_casts_row = is_primitive_cast (lit≤ tt) it_is it_is no_dims it_is
+    (is_primitive_cast (lit≤ tt) it_is it_is no_dims it_is (is_primitive_cast (lit≤ tt) it_is it_is no_dims it_is
+    (is_primitive_cast (lit≤ tt) it_is it_is no_dims it_is (is_primitive_cast (lit≤ tt) it_is it_is no_dims it_is
+    (is_primitive_cast (lit≤ tt) it_is it_is no_dims it_is (is_simple_name it_is))))))
+
+-- (A) (int[]) x
+cast_of_primitive_cast_row : Spells names texts (tree.cast (class_type
+    (record { parts = (named 26 1) ∷ []; span = from 1 2 }) no_types 0 (from 1 2))
+    (tree.cast (primitive prim.Int 1 (from 5 10)) (tree.name (named 23 12)) (from 4 13)) (from 0 13))
+    (sy symbol.OpenParen 0 ∷ id 26 1 ∷ sy symbol.CloseParen 2 ∷ sy symbol.OpenParen 4 ∷ wd word.Int 5 ∷
+    sy symbol.OpenBracket 8 ∷ sy symbol.CloseBracket 9 ∷ sy symbol.CloseParen 10 ∷ id 23 12 ∷ []) []
+cast_of_primitive_cast_row = is_class_cast refl it_is (simple_name it_is) no_dims it_is
+    (is_primitive_cast (lit≤ tt) it_is it_is (more_dims it_is it_is no_dims) it_is (is_simple_name it_is))
+
+-- (A) x++
+cast_of_postfix_row : Spells names texts (tree.cast (class_type (record { parts = (named 26 1) ∷ []; span = from 1 2 })
+    no_types 0 (from 1 2)) (tree.postfix postfix_op.Increment (from 5 7) (tree.name (named 23 4)) (from 4 7))
+    (from 0 7)) (sy symbol.OpenParen 0 ∷ id 26 1 ∷ sy symbol.CloseParen 2 ∷ id 23 4 ∷ sy symbol.Increment 5 ∷ []) []
+cast_of_postfix_row = is_class_cast refl it_is (simple_name it_is) no_dims it_is
+    (is_postfix (lit≤ tt) (is_simple_name it_is) it_is)
+
+-- (int) a + b
+cast_in_sum_row : Spells names texts (tree.binary op.Add (from 8 9)
+    (tree.cast (primitive prim.Int 0 (from 1 4)) (tree.name (named 0 6)) (from 0 7)) (tree.name (named 1 10))
+    (from 0 11)) (sy symbol.OpenParen 0 ∷ wd word.Int 1 ∷ sy symbol.CloseParen 4 ∷ id 0 6 ∷ sy symbol.Plus 8 ∷
+    id 1 10 ∷ []) []
+cast_in_sum_row = is_binary (lit≤ tt) (lit< tt) (is_primitive_cast (lit≤ tt) it_is it_is no_dims it_is
+    (is_simple_name it_is)) it_is (is_simple_name it_is)
+
+-- (a.b)
+bracketed_name_row : Spells names texts (tree.brackets (tree.select (tree.name (named 0 1)) (named 1 3) (from 1 4))
+    (from 0 5)) (sy symbol.OpenParen 0 ∷ id 0 1 ∷ sy symbol.Dot 2 ∷ id 1 3 ∷ sy symbol.CloseParen 4 ∷ []) []
+bracketed_name_row = is_brackets refl it_is (is_select (lit≤ tt) (is_simple_name it_is) it_is it_is) it_is
+
+-- (a.b.c) - d
+bracketed_difference_row : Spells names texts (tree.binary op.Subtract (from 8 9)
+    (tree.brackets (tree.select (tree.select (tree.name (named 0 1)) (named 1 3) (from 1 4)) (named 2 5) (from 1 6))
+    (from 0 7)) (tree.name (named 3 10)) (from 0 11)) (sy symbol.OpenParen 0 ∷ id 0 1 ∷ sy symbol.Dot 2 ∷ id 1 3 ∷
+    sy symbol.Dot 4 ∷ id 2 5 ∷ sy symbol.CloseParen 6 ∷ sy symbol.Minus 8 ∷ id 3 10 ∷ []) []
+bracketed_difference_row = is_binary (lit≤ tt) (lit< tt) (is_brackets refl it_is
+    (is_select (lit≤ tt) (is_select (lit≤ tt) (is_simple_name it_is) it_is it_is) it_is it_is) it_is) it_is
+    (is_simple_name it_is)
+
+-- (a)[0].b
+bracketed_index_row : Spells names texts (tree.select (tree.index (tree.brackets (tree.name (named 0 1)) (from 0 3))
+    (tree.literal (lit.Int (pos 0)) (from 4 5)) (from 0 6)) (named 1 7) (from 0 8)) (sy symbol.OpenParen 0 ∷ id 0 1 ∷
+    sy symbol.CloseParen 2 ∷ sy symbol.OpenBracket 3 ∷ num kind.IntLiteral 0 4 5 ∷ sy symbol.CloseBracket 5 ∷
+    sy symbol.Dot 6 ∷ id 1 7 ∷ []) []
+bracketed_index_row = is_select (lit≤ tt) (is_index (lit≤ tt) refl (is_brackets refl it_is (is_simple_name it_is)
+    it_is) it_is (is_literal (int_literal it_is)) it_is) it_is it_is
+
+-- (f()) + (this)
+bracketed_call_row : Spells names texts (tree.binary op.Add (from 6 7)
+    (tree.brackets (tree.call (named 5 1) tree.no_expressions (from 1 4)) (from 0 5))
+    (tree.brackets (tree.this (from 9 13)) (from 8 14)) (from 0 14)) (sy symbol.OpenParen 0 ∷ id 5 1 ∷
+    sy symbol.OpenParen 2 ∷ sy symbol.CloseParen 3 ∷ sy symbol.CloseParen 4 ∷ sy symbol.Plus 6 ∷
+    sy symbol.OpenParen 8 ∷ wd word.This 9 ∷ sy symbol.CloseParen 13 ∷ []) []
+bracketed_call_row = is_binary (lit≤ tt) (lit< tt) (is_brackets refl it_is (is_call it_is (no_arguments it_is it_is))
+    it_is) it_is (is_brackets refl it_is (is_this it_is) it_is)
+
+-- a -= b *= c /= d %= e
+arithmetic_assignments_row : Spells names texts (tree.assign (Some op.Subtract) (from 2 4) (tree.name (named 0 0))
+    (tree.assign (Some op.Multiply) (from 7 9) (tree.name (named 1 5))
+    (tree.assign (Some op.Divide) (from 12 14) (tree.name (named 2 10))
+    (tree.assign (Some op.Remainder) (from 17 19) (tree.name (named 3 15)) (tree.name (named 4 20)) (from 15 21))
+    (from 10 21)) (from 5 21)) (from 0 21)) (id 0 0 ∷ sy symbol.MinusAssign 2 ∷ id 1 5 ∷ sy symbol.StarAssign 7 ∷
+    id 2 10 ∷ sy symbol.SlashAssign 12 ∷ id 3 15 ∷ sy symbol.PercentAssign 17 ∷ id 4 20 ∷ []) []
+arithmetic_assignments_row = is_assign (lit≤ tt) (is_simple_name it_is) refl it_is
+    (is_assign (lit≤ tt) (is_simple_name it_is) refl it_is (is_assign (lit≤ tt) (is_simple_name it_is) refl it_is
+    (is_assign (lit≤ tt) (is_simple_name it_is) refl it_is (is_simple_name it_is))))
+
+-- a <<= b >>= c &= d ^= e |= f
+bit_assignments_row : Spells names texts (tree.assign (Some op.ShiftLeft) (from 2 5) (tree.name (named 0 0))
+    (tree.assign (Some op.ShiftRight) (from 8 11) (tree.name (named 1 6))
+    (tree.assign (Some op.BitAnd) (from 14 16) (tree.name (named 2 12))
+    (tree.assign (Some op.BitXor) (from 19 21) (tree.name (named 3 17))
+    (tree.assign (Some op.BitOr) (from 24 26) (tree.name (named 4 22)) (tree.name (named 5 27)) (from 22 28))
+    (from 17 28)) (from 12 28)) (from 6 28)) (from 0 28)) (id 0 0 ∷ sy symbol.ShiftLeftAssign 2 ∷ id 1 6 ∷
+    sy symbol.ShiftRightAssign 8 ∷ id 2 12 ∷ sy symbol.AndAssign 14 ∷ id 3 17 ∷ sy symbol.CaretAssign 19 ∷ id 4 22 ∷
+    sy symbol.OrAssign 24 ∷ id 5 27 ∷ []) []
+bit_assignments_row = is_assign (lit≤ tt) (is_simple_name it_is) refl it_is
+    (is_assign (lit≤ tt) (is_simple_name it_is) refl it_is (is_assign (lit≤ tt) (is_simple_name it_is) refl it_is
+    (is_assign (lit≤ tt) (is_simple_name it_is) refl it_is (is_assign (lit≤ tt) (is_simple_name it_is) refl it_is
+    (is_simple_name it_is)))))
