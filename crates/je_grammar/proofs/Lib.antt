@@ -2,6 +2,7 @@ pub mod Sizes
 pub mod AtLeastOne
 pub mod Refusals
 pub mod Refused
+pub mod Beginnings
 pub mod Through
 pub mod EndsOf
 pub mod BeginsOf
