@@ -188,7 +188,8 @@ module _ {k : Keyword} (head : BeginsNoHead k) where
     interface_at p no_modifiers (interface_declaration h _ _ _ _) = differs begins_declaration refl head.no_declaration p h
     interface_at p (more_modifiers h _) c = modifier_at p h
 
-    pub block_statement_at : {b : Statement} {w : Token} {ts rest : List Token} → begins_item k ≡ false → NoStep w ts → IsWord k w → ¬ SpellsBlockStatement names texts b (w ∷ ts) rest
+    pub block_statement_at : {b : Statement} {w : Token} {ts rest : List Token} → begins_item k ≡ false → NoStep w ts → IsWord k w →
+        ¬ SpellsBlockStatement names texts b (w ∷ ts) rest
     block_statement_at item n p (is_local not_final h _ _) = type_begins p h
     block_statement_at item n p (is_local (is_final h) _ _ _) = differs begins_modifiers refl head.no_modifiers p h
     block_statement_at item n p (is_local_class _ ms h) = class_at p ms h
@@ -202,7 +203,8 @@ module _ {k : Keyword} (head : BeginsNoHead k) where
     field_at p no_modifiers h = type_begins p h
     field_at p (more_modifiers h _) t = modifier_at p h
 
-    pub result_at : {ms : List Modifier} {t : Option Written} {w : Token} {ts mid rest : List Token} → begins_item k ≡ false → IsWord k w → SpellsModifiers names ms (w ∷ ts) mid → ¬ SpellsResult t mid rest
+    pub result_at : {ms : List Modifier} {t : Option Written} {w : Token} {ts mid rest : List Token} → begins_item k ≡ false → IsWord k w →
+        SpellsModifiers names ms (w ∷ ts) mid → ¬ SpellsResult t mid rest
     result_at item p ms (typed_result h) = field_at p ms h
     result_at item p no_modifiers (void_result h) = differs begins_item refl item p h
     result_at item p (more_modifiers h _) (void_result _) = modifier_at p h

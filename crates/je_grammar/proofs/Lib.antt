@@ -3,6 +3,7 @@ pub mod AtLeastOne
 pub mod Refusals
 pub mod Refused
 pub mod Beginnings
+pub mod Places
 pub mod Through
 pub mod EndsOf
 pub mod BeginsOf

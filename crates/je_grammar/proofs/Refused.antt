@@ -188,7 +188,7 @@ module _ (names texts : List (List ℕ)) where
   no_group_without_label (more_groups h _ _) = elim h [ ]
 
   -- JLS 7.3: `import` begins no declaration, so no import stands behind a declaration or a `;`.
-  no_modifier_of_import : {m : Modifier} {w : Token} {ts rest : List Token} → IsWord word.Import w → ¬ SpellsModifier names m (w ∷ ts) rest
+  pub no_modifier_of_import : {m : Modifier} {w : Token} {ts rest : List Token} → IsWord word.Import w → ¬ SpellsModifier names m (w ∷ ts) rest
   no_modifier_of_import it_is (override_modifier h _ _) = elim h [ ]
   no_modifier_of_import it_is (word_modifier {m = m} e it_is) = import_is_no_modifier m e
 
