@@ -1,29 +1,32 @@
 -- Worked rows: places of syntax faults. Above each row stands its text.
-use Rattle.std.proofs.Common.{◌≡◌, ℕ, ◌≤◌, List, ◌∷◌, [], Bool, true, false, refl, lit≤, zero-le, arith}
+use Rattle.std.proofs.Common.{◌≡◌, ◌&&◌, Some, ℕ, ◌≤◌, List, ◌∷◌, [], Bool, true, false, refl, lit≤, zero-le, arith}
 use Rattle.je_core.specs.declared.span.Span.{Span}
 use Rattle.je_token.specs.declared.keyword.Keyword.{Keyword}
 use Rattle.je_token.specs.declared.keyword.Keyword.TheVariants as word
 use Rattle.je_token.specs.declared.symbol.Symbol.TheVariants as symbol
 use Rattle.je_token.specs.declared.token.Token.{Token}
 use Rattle.je_ast.specs.declared.decl.Modifier.{Modifier}
+use Rattle.je_ast.specs.declared.decl.ModifierKind.{ModifierKind}
+use Rattle.je_ast.specs.declared.decl.ModifierKind.TheVariants as modifier
 use Rattle.je_ast.specs.Types.{Written, FormalParameter}
 use Rattle.je_ast.specs.declared.operator.PrefixOp.TheVariants as prefix_op
 use Rattle.je_ast.specs.Trees.{Expression, Expressions, Statement, Statements, Member, Members, Declaration}
 use Rattle.je_ast.specs.Trees as tree
 use Rattle.je_ast.specs.Height.{heights}
 use Rattle.je_grammar.specs.Tokens.{IsWord, IsSymbol, it_is}
-use Rattle.je_grammar.specs.Context.{word_begins_operand}
-use Rattle.je_grammar.specs.Types.{SpellsModifier, override_modifier, word_modifier, SpellsModifiers, no_modifiers, more_modifiers, SpellsType, primitive_type, reference_type, plain_ref, ref_with_arguments, simple_name, qualified_name, void_result, typed_result, SpellsFormal, last_formal, more_formals, formal, no_formals, some_formals, not_final, is_final, no_parameters, some_parameters, no_throws, some_throws}
+use Rattle.je_grammar.specs.Context.{word_begins_operand, is_final_or_abstract}
+use Rattle.je_grammar.specs.Types.{modifier_word, SpellsModifier, override_modifier, word_modifier, SpellsModifiers, no_modifiers, more_modifiers, SpellsType, primitive_type, reference_type, plain_ref, ref_with_arguments, simple_name, qualified_name, void_result, typed_result, SpellsFormal, last_formal, more_formals, formal, no_formals, some_formals, not_final, is_final, no_parameters, some_parameters, no_throws, some_throws}
 use Rattle.je_grammar.proofs.Refused.{no_modifier_of_import, no_declaration_of_import}
 use Rattle.je_grammar.specs.Grammar.{is_prefix, is_simple_name, SpellsFirstCall, this_call, super_call, SpellsClass, SpellsBlockStatement, SpellsDeclaration, is_class, is_interface, class_declaration, interface_declaration, no_extends, some_extends, no_implements, some_implements, is_body, SpellsMembers, no_members, lone_semicolon, more_members, SpellsMember, is_type, is_field, is_method, is_constructor, is_initializer, is_static_initializer, without_body, with_body, SpellsBlock, empty_block, full_block, last_statement, more_statements}
 use Rattle.je_grammar.specs.Longest.{IsLongestExpression}
-use Rattle.je_grammar.specs.Place.{Context, imports, declarations, members, constructor_body, before_imports_end, Reads, an_import, first_declaration, first_semicolon, a_declaration, semicolon_between, a_member, semicolon_in_body, a_first_call, first_statement, a_statement, Opens, opens_class, opens_interface, opens_local_class, opens_method, opens_constructor, opens_initializer, opens_static_initializer, opens_block, FailsAt, behind_item, unreadable, inside, IsSyntaxPlace}
+use Rattle.je_grammar.specs.Place.{Context, imports, declarations, members, constructor_body, statements, before_imports_end, Reads, an_import, first_declaration, first_semicolon, a_declaration, semicolon_between, a_member, semicolon_in_body, a_first_call, first_statement, a_statement, Opens, opens_class, opens_interface, opens_local_class, opens_method, opens_constructor, opens_initializer, opens_static_initializer, opens_block, FailsAt, behind_item, unreadable, inside, IsSyntaxPlace}
 use Rattle.je_grammar.proofs.Beginnings.{differs, begins_modifiers, modifier_begins, begins_item, begins_declaration, BeginsNoHead, type_begins, modifier_at, expression_at, block_statement_at, declaration_at, field_at, result_at, constructor_at, member_at, begins_value, no_statement_of_call}
 use Rattle.je_grammar.specs.Rows.Scale.{from, named, id, sy, wd, end, names, texts}
 
 -- A word that begins no item is the place wherever an item should stand.
 module _ {k : Keyword} (head : BeginsNoHead k) (item : begins_item k ≡ false) (operand : word_begins_operand k ≡ false) (names texts : List (List ℕ)) (most : ℕ) where
-  first_call_at : {m : Bool} {s : Span} {es : Expressions} {w : Token} {ts rest : List Token} → IsWord k w → ¬ SpellsFirstCall names texts (tree.explicit m s es) (w ∷ ts) rest
+  first_call_at : {m : Bool} {s : Span} {es : Expressions} {w : Token} {ts rest : List Token} → IsWord k w →
+      ¬ SpellsFirstCall names texts (tree.explicit m s es) (w ∷ ts) rest
   first_call_at p (this_call h _ _) = differs word_begins_operand refl operand p h
   first_call_at p (super_call h _ _) = differs word_begins_operand refl operand p h
 
@@ -188,6 +191,38 @@ stuck_import it_is (semicolon_between h) = elim h [ ]
 import_place : IsSyntaxPlace names texts 300 (sy symbol.Semicolon 0 ∷ wd word.Import 2 ∷ id 27 9 ∷ sy symbol.Semicolon 10 ∷ end 11 ∷ [])
     (wd word.Import 2 ∷ id 27 9 ∷ sy symbol.Semicolon 10 ∷ end 11 ∷ [])
 import_place = behind_item (first_semicolon it_is) (unreadable (λ y rest r. stuck_import it_is r) (λ y inner o. no_declaration_opens it_is o) (λ b s. elim b [ ]))
+
+-- In a block a word that begins no head is not opened, as `if (..) {`, and no local class that is static.
+module _ {k : Keyword} (head : BeginsNoHead k) (names texts : List (List ℕ)) (most : ℕ) where
+  no_statement_opens : {y : Context} {w : Token} {ts inner : List Token} → IsWord k w → ¬ Opens names texts most statements y (w ∷ ts) inner
+  no_statement_opens p (opens_class h _ _ _ _ _ _ _) = elim h [ ]
+  no_statement_opens p (opens_interface h _ _ _ _ _ _) = elim h [ ]
+  no_statement_opens p (opens_local_class _ _ no_modifiers h _ _ _ _ _) = differs begins_declaration refl head.no_declaration p h
+  no_statement_opens p (opens_local_class _ _ (more_modifiers h _) _ _ _ _ _ _) = modifier_at head names texts p h
+  no_statement_opens it_is (opens_block _ h) = elim h [ ]
+
+static_is_not_local : (m : ModifierKind) → modifier_word m ≡ Some word.Static → is_final_or_abstract m ≡ false
+static_is_not_local modifier.Override e = refl
+static_is_not_local modifier.Public e = refl
+static_is_not_local modifier.Protected e = refl
+static_is_not_local modifier.Private e = refl
+static_is_not_local modifier.Static e = refl
+static_is_not_local modifier.Final e = absurd cc
+static_is_not_local modifier.Abstract e = absurd cc
+static_is_not_local modifier.Native e = refl
+
+local_modifier : (a b : Bool) → a ≡ false → ¬ ((a && b) ≡ true)
+local_modifier false b e h = cc
+local_modifier true b e h = cc
+
+no_static_class_opens : {names texts : List (List ℕ)} {most : ℕ} {y : Context} {w : Token} {ts inner : List Token} → IsWord word.Static w →
+    ¬ Opens names texts most statements y (w ∷ ts) inner
+no_static_class_opens p (opens_class h _ _ _ _ _ _ _) = elim h [ ]
+no_static_class_opens p (opens_interface h _ _ _ _ _ _) = elim h [ ]
+no_static_class_opens it_is (opens_local_class _ _ no_modifiers h _ _ _ _ _) = elim h [ ]
+no_static_class_opens it_is (opens_local_class _ l (more_modifiers (override_modifier h _ _) _) _ _ _ _ _ _) = elim h [ ]
+no_static_class_opens it_is (opens_local_class _ l (more_modifiers (word_modifier {m = m} e it_is) _) _ _ _ _ _ _) = local_modifier (is_final_or_abstract m) _ (static_is_not_local m e) l
+no_static_class_opens it_is (opens_block _ h) = elim h [ ]
 
 -- What is read at a constructor's `this (` or `super (` is an explicit call, with arguments within the height.
 pub record ReadsCall (names texts : List (List ℕ)) (most : ℕ) (ts rest : List Token) : Type 0 where

@@ -1,6 +1,6 @@
 -- What the grammar does not spell. Each lemma says that no tokens spell such a tree, or what holds of a tree that some
 -- tokens spell.
-use Rattle.std.proofs.Common.{◌≡◌, ℕ, ◌≤◌, List, ◌∷◌, [], Bool, true, false, ◌&&◌, ◌⊎◌, inl, inr, refl, All, Option, Some, arith}
+use Rattle.std.proofs.Common.{◌≡◌, ℕ, ◌≤◌, ◌<◌, List, ◌∷◌, [], Bool, true, false, ◌&&◌, ◌⊎◌, inl, inr, refl, All, Option, Some, arith}
 use Rattle.std.proofs.lemmas.List.Elements.{All-cons}
 use Rattle.je_core.specs.declared.span.Span.{Span}
 use Rattle.je_token.specs.declared.keyword.Keyword.TheVariants as word
@@ -21,7 +21,7 @@ use Rattle.je_grammar.specs.Operators.{level, operator_level}
 use Rattle.je_grammar.specs.Tokens.{IsWord, it_is}
 use Rattle.je_grammar.specs.Context.{is_final_or_abstract, are_local}
 use Rattle.je_grammar.specs.Types.{SpellsType, reference_type, ref_with_arguments, SpellsTypeArguments, last_argument, more_arguments, modifier_word, SpellsModifier, override_modifier, word_modifier, no_modifiers, more_modifiers}
-use Rattle.je_grammar.specs.Grammar.{Spells, is_assign, is_conditional, is_binary, is_instance_of, is_class_cast, is_new_array, is_new_array_of}
+use Rattle.je_grammar.specs.Grammar.{Spells, is_select, is_call_on, is_index, is_postfix, is_prefix, is_primitive_cast, is_assign, is_conditional, is_binary, is_instance_of, is_class_cast, is_new_array, is_new_array_of}
 use Rattle.je_grammar.specs.Grammar.{SpellsStatement, is_try, step_statement, SpellsGroups, last_labels, more_groups, SpellsBlockStatement, is_local_class, is_statement}
 use Rattle.je_grammar.specs.Grammar.{class_declaration, interface_declaration, SpellsDeclaration, is_class, is_interface, SpellsDeclarations, no_declarations, semicolon_between, more_declarations}
 
@@ -67,6 +67,41 @@ import_is_no_modifier modifier.Abstract e = cc
 import_is_no_modifier modifier.Native e = cc
 
 module _ (names texts : List (List ℕ)) where
+  -- JLS 15: how tightly the parts of an expression bind at least, so that `-a.b` selects from no `-a`, `a + b * c` multiplies
+  -- no sum, and `a = b` stands without brackets in none of them.
+  pub selected_is_primary : {e : Expression} {n : Identifier} {s : Span} {ts rest : List Token} → Spells names texts (tree.select e n s) ts rest → 15 ≤ level e
+  selected_is_primary (is_select p _ _ _) = p
+
+  pub called_is_primary : {e : Expression} {n : Identifier} {es : Expressions} {s : Span} {ts rest : List Token} → Spells names texts (tree.call_on e n es s) ts rest →
+      15 ≤ level e
+  called_is_primary (is_call_on p _ _ _ _) = p
+
+  pub indexed_is_primary : {a i : Expression} {s : Span} {ts rest : List Token} → Spells names texts (tree.index a i s) ts rest → 15 ≤ level a
+  indexed_is_primary (is_index p _ _ _ _ _) = p
+
+  pub postfix_operand : {o : PostfixOp} {e : Expression} {a s : Span} {ts rest : List Token} → Spells names texts (tree.postfix o a e s) ts rest → 14 ≤ level e
+  postfix_operand (is_postfix p _ _) = p
+
+  pub prefix_operand : {o : PrefixOp} {e : Expression} {a s : Span} {ts rest : List Token} → Spells names texts (tree.prefix o a e s) ts rest → 13 ≤ level e
+  prefix_operand (is_prefix p _ _) = p
+
+  pub cast_operand : {p : Primitive} {d : ℕ} {e : Expression} {q s : Span} {ts rest : List Token} → Spells names texts (tree.cast (primitive p d q) e s) ts rest →
+      13 ≤ level e
+  cast_operand (is_primitive_cast p _ _ _ _ _) = p
+
+  pub left_operand : {o : BinaryOp} {l r : Expression} {a s : Span} {ts rest : List Token} → Spells names texts (tree.binary o a l r s) ts rest → operator_level o ≤ level l
+  left_operand (is_binary p _ _ _ _) = p
+
+  pub right_operand : {o : BinaryOp} {l r : Expression} {a s : Span} {ts rest : List Token} → Spells names texts (tree.binary o a l r s) ts rest →
+      operator_level o < level r
+  right_operand (is_binary _ p _ _ _) = p
+
+  pub instance_operand : {e : Expression} {t : Written} {a s : Span} {ts rest : List Token} → Spells names texts (tree.instance_of a e t s) ts rest → 9 ≤ level e
+  instance_operand (is_instance_of p _ _ _ _) = p
+
+  pub condition_of_conditional : {c x y : Expression} {a s : Span} {ts rest : List Token} → Spells names texts (tree.conditional a c x y s) ts rest → 3 ≤ level c
+  condition_of_conditional (is_conditional p _ _ _ _ _ _) = p
+
   -- JLS 15.26: the left side of an assignment is a primary.
   pub assigned_is_primary : {o : Option BinaryOp} {a s : Span} {l r : Expression} {ts rest : List Token} →
       Spells names texts (tree.assign o a l r s) ts rest → 15 ≤ level l
