@@ -17,9 +17,9 @@ use Rattle.je_grammar.specs.Tokens.{IsWord, IsSymbol, it_is}
 use Rattle.je_grammar.specs.Context.{word_begins_operand, is_final_or_abstract}
 use Rattle.je_grammar.specs.Types.{modifier_word, SpellsModifier, override_modifier, word_modifier, SpellsModifiers, no_modifiers, more_modifiers, SpellsType, primitive_type, reference_type, plain_ref, ref_with_arguments, simple_name, qualified_name, void_result, typed_result, SpellsFormal, last_formal, more_formals, formal, no_formals, some_formals, not_final, is_final, no_parameters, some_parameters, no_throws, some_throws}
 use Rattle.je_grammar.proofs.Refused.{no_modifier_of_import, no_declaration_of_import}
-use Rattle.je_grammar.specs.Grammar.{is_prefix, is_simple_name, SpellsFirstCall, this_call, super_call, SpellsClass, SpellsBlockStatement, SpellsDeclaration, is_class, is_interface, class_declaration, interface_declaration, no_extends, some_extends, no_implements, some_implements, is_body, SpellsMembers, no_members, lone_semicolon, more_members, SpellsMember, is_type, is_field, is_method, is_constructor, is_initializer, is_static_initializer, without_body, with_body, SpellsBlock, empty_block, full_block, last_statement, more_statements}
+use Rattle.je_grammar.specs.Grammar.{is_prefix, is_simple_name, SpellsFirstCall, this_call, super_call, no_arguments, some_arguments, last_expression, more_expressions, SpellsClass, SpellsBlockStatement, SpellsDeclaration, is_class, is_interface, class_declaration, interface_declaration, no_extends, some_extends, no_implements, some_implements, is_body, SpellsMembers, no_members, lone_semicolon, more_members, SpellsMember, is_type, is_field, is_method, is_constructor, is_initializer, is_static_initializer, without_body, with_body, SpellsBlock, empty_block, full_block, last_statement, more_statements}
 use Rattle.je_grammar.specs.Longest.{IsLongestExpression}
-use Rattle.je_grammar.specs.Place.{Context, imports, declarations, members, constructor_body, statements, before_imports_end, Reads, an_import, first_declaration, first_semicolon, a_declaration, semicolon_between, a_member, semicolon_in_body, a_first_call, first_statement, a_statement, Opens, opens_class, opens_interface, opens_local_class, opens_method, opens_constructor, opens_initializer, opens_static_initializer, opens_block, FailsAt, behind_item, unreadable, inside, IsSyntaxPlace}
+use Rattle.je_grammar.specs.Place.{Context, imports, declarations, members, constructor_body, statements, HasStatements, in_constructor, in_block, before_imports_end, Reads, an_import, first_declaration, first_semicolon, a_declaration, semicolon_between, a_member, semicolon_in_body, a_first_call, first_statement, a_statement, Opens, opens_class, opens_interface, opens_local_class, opens_method, opens_constructor, opens_initializer, opens_static_initializer, opens_block, FailsAt, behind_item, unreadable, inside, IsSyntaxPlace}
 use Rattle.je_grammar.proofs.Beginnings.{differs, begins_modifiers, modifier_begins, begins_item, begins_declaration, BeginsNoHead, type_begins, modifier_at, expression_at, block_statement_at, declaration_at, field_at, result_at, constructor_at, member_at, begins_value, no_statement_of_call}
 use Rattle.je_grammar.specs.Rows.Scale.{from, named, id, sy, wd, end, names, texts}
 
@@ -192,14 +192,22 @@ import_place : IsSyntaxPlace names texts 300 (sy symbol.Semicolon 0 ∷ wd word.
     (wd word.Import 2 ∷ id 27 9 ∷ sy symbol.Semicolon 10 ∷ end 11 ∷ [])
 import_place = behind_item (first_semicolon it_is) (unreadable (λ y rest r. stuck_import it_is r) (λ y inner o. no_declaration_opens it_is o) (λ b s. elim b [ ]))
 
--- In a block a word that begins no head is not opened, as `if (..) {`, and no local class that is static.
+-- In a block, and in a constructor's body, a word that begins no head is not opened, as `if (..) {`, and no local class that
+-- is static.
 module _ {k : Keyword} (head : BeginsNoHead k) (names texts : List (List ℕ)) (most : ℕ) where
-  no_statement_opens : {y : Context} {w : Token} {ts inner : List Token} → IsWord k w → ¬ Opens names texts most statements y (w ∷ ts) inner
-  no_statement_opens p (opens_class h _ _ _ _ _ _ _) = elim h [ ]
-  no_statement_opens p (opens_interface h _ _ _ _ _ _) = elim h [ ]
-  no_statement_opens p (opens_local_class _ _ no_modifiers h _ _ _ _ _) = differs begins_declaration refl head.no_declaration p h
-  no_statement_opens p (opens_local_class _ _ (more_modifiers h _) _ _ _ _ _ _) = modifier_at head names texts p h
-  no_statement_opens it_is (opens_block _ h) = elim h [ ]
+  no_local_class_opens : {ms : List Modifier} {w v : Token} {ts rest : List Token} → IsWord k w → SpellsModifiers names ms (w ∷ ts) (v ∷ rest) → ¬ IsWord word.Class v
+  no_local_class_opens p no_modifiers h = differs begins_declaration refl head.no_declaration p h
+  no_local_class_opens p (more_modifiers h _) _ = modifier_at head names texts p h
+
+  no_statement_opens : {x y : Context} {w : Token} {ts inner : List Token} → HasStatements x → IsWord k w → ¬ Opens names texts most x y (w ∷ ts) inner
+  no_statement_opens in_constructor p (opens_class h _ _ _ _ _ _ _) = elim h [ ]
+  no_statement_opens in_constructor p (opens_interface h _ _ _ _ _ _) = elim h [ ]
+  no_statement_opens in_constructor p (opens_local_class _ _ ms h _ _ _ _ _) = no_local_class_opens p ms h
+  no_statement_opens in_constructor it_is (opens_block _ h) = elim h [ ]
+  no_statement_opens in_block p (opens_class h _ _ _ _ _ _ _) = elim h [ ]
+  no_statement_opens in_block p (opens_interface h _ _ _ _ _ _) = elim h [ ]
+  no_statement_opens in_block p (opens_local_class _ _ ms h _ _ _ _ _) = no_local_class_opens p ms h
+  no_statement_opens in_block it_is (opens_block _ h) = elim h [ ]
 
 static_is_not_local : (m : ModifierKind) → modifier_word m ≡ Some word.Static → is_final_or_abstract m ≡ false
 static_is_not_local modifier.Override e = refl
@@ -221,7 +229,8 @@ no_static_class_opens p (opens_class h _ _ _ _ _ _ _) = elim h [ ]
 no_static_class_opens p (opens_interface h _ _ _ _ _ _) = elim h [ ]
 no_static_class_opens it_is (opens_local_class _ _ no_modifiers h _ _ _ _ _) = elim h [ ]
 no_static_class_opens it_is (opens_local_class _ l (more_modifiers (override_modifier h _ _) _) _ _ _ _ _ _) = elim h [ ]
-no_static_class_opens it_is (opens_local_class _ l (more_modifiers (word_modifier {m = m} e it_is) _) _ _ _ _ _ _) = local_modifier (is_final_or_abstract m) _ (static_is_not_local m e) l
+no_static_class_opens it_is (opens_local_class _ l (more_modifiers (word_modifier {m = m} e it_is) _) _ _ _ _ _ _) =
+    local_modifier (is_final_or_abstract m) _ (static_is_not_local m e) l
 no_static_class_opens it_is (opens_block _ h) = elim h [ ]
 
 -- What is read at a constructor's `this (` or `super (` is an explicit call, with arguments within the height.
@@ -238,6 +247,14 @@ module _ {k : Keyword} (head : BeginsNoHead k) (item : begins_item k ≡ false) 
   call_within p b (a_first_call {m = m} {w = s} {es = es} h q) = record { is_super = m; word = s; arguments = es; spelled = h; within = q }
   call_within p b (first_statement l) = absurd (no_statement_of_call head value names texts item p b l.spelled)
 
+  no_bracket_of_word : {w : Token} → IsWord k w → ¬ IsSymbol symbol.CloseBrace w
+  no_bracket_of_word it_is h = elim h [ ]
+
+  -- Where no explicit call can be read there, its first token is the place.
+  call_place : {w o : Token} {ts : List Token} → IsWord k w → IsSymbol symbol.OpenParen o →
+      ((rest : List Token) → ¬ ReadsCall names texts most (w ∷ o ∷ ts) rest) → FailsAt names texts most constructor_body (w ∷ o ∷ ts) (w ∷ o ∷ ts)
+  call_place p b n = unreadable (λ y rest r. n rest (call_within p b r)) (λ y inner o. no_statement_opens head names texts most in_constructor p o) (λ c. no_bracket_of_word p)
+
 -- this (..) and super (..)
 pub this_call_within : {names texts : List (List ℕ)} {most : ℕ} {y : Context} {w o : Token} {ts rest : List Token} → IsWord word.This w → IsSymbol symbol.OpenParen o →
     Reads names texts most constructor_body y (w ∷ o ∷ ts) rest → ReadsCall names texts most (w ∷ o ∷ ts) rest
@@ -246,6 +263,20 @@ this_call_within {names = names} {texts = texts} {most = most} = call_within (re
 pub super_call_within : {names texts : List (List ℕ)} {most : ℕ} {y : Context} {w o : Token} {ts rest : List Token} → IsWord word.Super w → IsSymbol symbol.OpenParen o →
     Reads names texts most constructor_body y (w ∷ o ∷ ts) rest → ReadsCall names texts most (w ∷ o ∷ ts) rest
 super_call_within {names = names} {texts = texts} {most = most} = call_within (record { no_type = refl; no_modifiers = refl; no_declaration = refl }) refl refl names texts most
+
+no_call_at_else : {m : Bool} {s : Span} {es : Expressions} {w o t : Token} {ts rest : List Token} → IsWord word.This w → IsWord word.Else t →
+    ¬ SpellsFirstCall names texts (tree.explicit m s es) (w ∷ o ∷ t ∷ ts) rest
+no_call_at_else p it_is (this_call _ (no_arguments _ h) _) = elim h [ ]
+no_call_at_else p q (this_call _ (some_arguments _ (last_expression h) _) _) = expression_at else_head names texts refl q h
+no_call_at_else p q (this_call _ (some_arguments _ (more_expressions h _ _) _) _) = expression_at else_head names texts refl q h
+no_call_at_else it_is q (super_call h _ _) = elim h [ ]
+
+-- this(else); } in a constructor's body
+call_place_row : FailsAt names texts 300 constructor_body
+    (wd word.This 0 ∷ sy symbol.OpenParen 4 ∷ wd word.Else 5 ∷ sy symbol.CloseParen 9 ∷ sy symbol.Semicolon 10 ∷ sy symbol.CloseBrace 12 ∷ [])
+    (wd word.This 0 ∷ sy symbol.OpenParen 4 ∷ wd word.Else 5 ∷ sy symbol.CloseParen 9 ∷ sy symbol.Semicolon 10 ∷ sy symbol.CloseBrace 12 ∷ [])
+call_place_row = call_place (record { no_type = refl; no_modifiers = refl; no_declaration = refl }) refl refl names texts 300 it_is it_is
+    (λ rest r. no_call_at_else it_is it_is r.spelled)
 
 -- -x: it is the longest where nothing follows, and too high where one node is allowed
 abbrev minus_x : Expression
