@@ -1,5 +1,6 @@
 pub mod Counts
 pub mod Files
+pub mod Plan
 pub mod Sink
 pub mod InMemory
 pub mod Status

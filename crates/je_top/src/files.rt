@@ -1,8 +1,9 @@
 // Files by name.
 
-ghost use Rattle.std.specs.Prelude.{◌≡◌, ◌≤◌, ℕ, List, ⊤, OnOk, IfSome, MatchOption, IsErrOf};
+ghost use Rattle.std.specs.Prelude.{◌≡◌, ◌≤◌, ℕ, List, ⊤, OnOk, IfSome, MatchOption, IsErrOf, option_map};
 ghost use Rattle.std.specs.declared.option.Option.{Option};
 ghost use Rattle.je_top.specs.Counts.{Rose};
+ghost use Rattle.je_top.specs.Plan.{Plan, after_call, FailsNext, FailsIfHeld};
 ghost use Rattle.je_top.specs.Files.{Held, IsWhole, IsFront, IsMissing, SaysMissing, KeepsCount, LeavesNothing, last_after};
 
 use thiserror::Error;
@@ -38,6 +39,9 @@ pub trait Files {
     /// The name of the last read that answered `Failed`, empty before the first.
     ghost last: { Self → List ℕ };
 
+    /// The reads that are to fail, where that is told.
+    ghost plan: { Self → Option Plan };
+
     /// No read fails any more.
     ghost is_calm: { Self → Type 0 };
 
@@ -54,6 +58,11 @@ pub trait Files {
         ensures too_long { IsErrOf result FileFault.TooLong →
             IsFront (held self.old) name.now into.new.items }
         ensures nothing { LeavesNothing result into.new.items }
+
+        // Which reads fail. A name that isn't held is missing all the same.
+        ensures plan { plan self.new ≡ option_map after_call (plan self.old) }
+        ensures planned { IsErrOf result FileFault.Failed → IfSome (plan self.old) FailsNext }
+        ensures fails { IfSome (plan self.old) (λ p. FailsNext p → FailsIfHeld (held self.old) name.now result) }
 
         // When the count rises.
         ensures failed { IsErrOf result FileFault.Failed → Rose (faults self.old) (faults self.new) }

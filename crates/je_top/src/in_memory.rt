@@ -2,6 +2,7 @@
 
 ghost use Rattle.std.specs.Prelude.{◌≡◌, ◌+◌, ◌-◌, ◌^◌, ◌↔◌, [], min, IsTrue, Contains, Some, string_bytes};
 ghost use Rattle.je_top.specs.InMemory.{files_of};
+ghost use Rattle.je_top.specs.Plan.{Plan};
 
 use crate::FILE_LIMIT;
 use crate::files::{FileFault, Files};
@@ -53,6 +54,7 @@ impl MemFiles {
         ensures held { ⟦<MemFiles as Files>⟧.held result ≡ Some (files_of held) }
         ensures faults { ⟦<MemFiles as Files>⟧.faults result ≡ 0 }
         ensures last { ⟦<MemFiles as Files>⟧.last result ≡ [] }
+        ensures plan { ⟦<MemFiles as Files>⟧.plan result ≡ Some (record { to_fail = fails.items; made = 0 }) }
         ensures calm { fails.items ≡ [] → ⟦<MemFiles as Files>⟧.is_calm result }
     {
         MemFiles {
@@ -71,6 +73,8 @@ impl Files for MemFiles {
     ghost faults = { λ s. s.faults };
 
     ghost last = { λ s. string_bytes s.last };
+
+    ghost plan = { λ s. Some (record { to_fail = s.reads.to_fail.items; made = s.reads.made }) };
 
     ghost is_calm = { λ s. s.reads.to_fail.items ≡ [] };
 
@@ -116,6 +120,7 @@ impl MemSink {
     pub fn new(alloc: Global, fails: Vec<u64>) -> Self
         ensures taken { ⟦<MemSink as Sink>⟧.taken result ≡ Some [] }
         ensures faults { ⟦<MemSink as Sink>⟧.faults result ≡ 0 }
+        ensures plan { ⟦<MemSink as Sink>⟧.plan result ≡ Some (record { to_fail = fails.items; made = 0 }) }
         ensures calm { fails.items ≡ [] → ⟦<MemSink as Sink>⟧.is_calm result }
     {
         MemSink {
@@ -137,6 +142,8 @@ impl Sink for MemSink {
     ghost taken = { λ s. Some s.taken.items };
 
     ghost faults = { λ s. s.faults };
+
+    ghost plan = { λ s. Some (record { to_fail = s.puts.to_fail.items; made = s.puts.made }) };
 
     ghost is_calm = { λ s. s.puts.to_fail.items ≡ [] };
 

@@ -42,6 +42,8 @@ impl<'a, R: SystemFiles> Files for RealFiles<'a, R> {
 
     ghost last = { λ s. string_bytes s.last };
 
+    ghost plan = { λ _. None };
+
     ghost is_calm = { λ _. ⊥ };
 
     fn read(&mut self, name: &str, into: &mut Vec<u8>) -> Result<(), FileFault> {
@@ -137,6 +139,8 @@ impl<'a, R: Print> Sink for RealSink<'a, R> {
     ghost taken = { λ _. None };
 
     ghost faults = { λ s. s.faults };
+
+    ghost plan = { λ _. None };
 
     ghost is_calm = { λ _. ⊥ };
 

@@ -1,8 +1,9 @@
 // Where text goes.
 
-ghost use Rattle.std.specs.Prelude.{◌≡◌, ◌≤◌, ℕ, List, OnOk, IsErrOf};
+ghost use Rattle.std.specs.Prelude.{◌≡◌, ◌≤◌, ℕ, List, OnOk, IfSome, IsErrOf, option_map};
 ghost use Rattle.std.specs.declared.option.Option.{Option};
 ghost use Rattle.je_top.specs.Counts.{Rose};
+ghost use Rattle.je_top.specs.Plan.{Plan, after_call, FailsNext};
 ghost use Rattle.je_top.specs.Sink.{grown, GrewByFront};
 
 use thiserror::Error;
@@ -26,6 +27,9 @@ pub trait Sink {
     /// The count of faults.
     ghost faults: { Self → ℕ };
 
+    /// The puts that are to fail, where that is told.
+    ghost plan: { Self → Option Plan };
+
     /// No put fails any more.
     ghost is_calm: { Self → Type 0 };
 
@@ -36,6 +40,12 @@ pub trait Sink {
         ensures front { IsErrOf result SinkFault.Failed →
             GrewByFront (taken self.old) (taken self.new) piece.now }
         ensures memory { IsErrOf result SinkFault.Memory → taken self.new ≡ taken self.old }
+
+        // Which puts fail. A put that was to fail takes nothing.
+        ensures plan { plan self.new ≡ option_map after_call (plan self.old) }
+        ensures planned { IsErrOf result SinkFault.Failed → IfSome (plan self.old) FailsNext }
+        ensures fails { IfSome (plan self.old) (λ p. FailsNext p → IsErrOf result SinkFault.Failed) }
+        ensures nothing { IsErrOf result SinkFault.Failed → IfSome (plan self.old) (λ _. taken self.new ≡ taken self.old) }
 
         // When the count rises.
         ensures failed { IsErrOf result SinkFault.Failed → Rose (faults self.old) (faults self.new) }

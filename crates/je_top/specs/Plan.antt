@@ -1,0 +1,33 @@
+-- Which calls are to fail, where that is told: the numbers, from 1, of those that do, and how many calls were made, a number of
+-- 64 bits that stays at its greatest value once it is there.
+use Rattle.std.specs.Prelude.{ℕ, ◌+◌, ◌-◌, ◌^◌, min, List, Contains, Result, Ok, Err, IfSome}
+use Rattle.std.specs.declared.option.Option.{Option}
+use Rattle.je_top.specs.declared.files.FileFault.{FileFault}
+use Rattle.je_top.specs.declared.files.FileFault.TheVariants.{NotThere, TooLong, Failed, Memory}
+use Rattle.je_top.specs.Files.{Held}
+
+pub record Plan : Type 0 where
+  pub to_fail : List ℕ
+  pub made : ℕ
+
+abbrev pub next_call : Plan → ℕ
+next_call plan = min (plan.made + 1) (2 ^ 64 - 1)
+
+abbrev pub after_call : Plan → Plan
+after_call plan = record { to_fail = plan.to_fail; made = next_call plan }
+
+-- the next call is to fail
+abbrev pub FailsNext : Plan → Type 0
+FailsNext plan = Contains plan.to_fail (next_call plan)
+
+-- the read failed, unless memory ran out before that
+abbrev pub SaysFailed : Result Unit FileFault → Type 0
+SaysFailed (Ok done) = ⊥
+SaysFailed (Err NotThere) = ⊥
+SaysFailed (Err TooLong) = ⊥
+SaysFailed (Err Failed) = Unit {0}
+SaysFailed (Err Memory) = Unit {0}
+
+-- where a file of this name is held, the read failed
+abbrev pub FailsIfHeld : Option Held → List ℕ → Result Unit FileFault → Type 0
+FailsIfHeld held name result = IfSome held (λ files. IfSome (files name) (λ bytes. SaysFailed result))
