@@ -1,6 +1,7 @@
--- The call of a One's main replies.
+-- A call that fits of a method of a One replies, and so does that of its main.
 use Rattle.std.proofs.Common.{◌≡◌, ℕ, List, [], length, refl}
-use Rattle.std.specs.Prelude.{◌≢◌, ℤ, true}
+use Rattle.std.specs.Prelude.{◌≢◌, ℤ, Bool, true, false, Some, slice_get}
+use Rattle.je_core.specs.declared.object.Obj.{Obj}
 use Rattle.std.proofs.lemmas.List.Elements.{All-nil}
 use Rattle.je_core.specs.declared.program.Program.{Program}
 use Rattle.je_core.specs.declared.value.ObjId.{ObjId}
@@ -11,41 +12,59 @@ use Rattle.je_java.specs.Meaning.{java, call, call_method, ends, state_at}
 use Rattle.one_syntax.specs.Trees.{OneTree}
 use Rattle.one_program.specs.Conditions.{Fits, IsMain}
 use Rattle.one_program.specs.Elaboration.{Elaborates, one_class}
-use Rattle.one_program.specs.declared.scope.Sort.TheVariants.{Int as int}
+use Rattle.one_program.specs.declared.scope.Sort.TheVariants.{Int as int, Object as object}
+use Rattle.one_program.specs.declared.scope.Head.{Head}
 use Rattle.one_program.specs.Scope.{Members, members_of}
+use Rattle.one_sound.specs.Fitting.{IsReceiver, of_static, of_instance, CallFits}
 use Rattle.one_sound.specs.Replies.{Replies, an_int, units_spent}
 use Rattle.one_sound.proofs.Kept.{Keeps}
 use Rattle.one_sound.proofs.Program.{program-typed}
 use Rattle.one_sound.proofs.Safe.{safe-need}
 use Rattle.one_sound.proofs.Sound.{java_keeps, keeps-method}
 use Rattle.one_sound.proofs.Typing.{Context, ProgramTyped}
-use Rattle.one_sound.proofs.Values.{IsInt, IsOwnObject, Holds, no_more}
+use Rattle.one_sound.proofs.Values.{IsInt, Ints, IsOwnObject, Holds, an_object, no_more}
 
 -- the context of a call whose caller has nothing of its own
 abbrev outside : Context
 outside = record { is_static = true; locals = []; room = 0 }
 
-main-keeps : {names : List (List ℕ)} {members : Members} {program : Program} {main : ℕ} → ProgramTyped members program →
-    IsMain names members main →
-    Keeps (length members.fields) 0 outside outside (Holds int) (call_method program (java program) one_class main Null [])
-main-keeps {main = main} p q =
-    let found = p.method main _ q.head in
-    safe-need _ found.1 (keeps-method (java_keeps p) found.0 Null [] found.2 (record { length_is = refl; all = All-nil IsInt }) λ h. absurd (cc))
+call-keeps : {members : Members} {program : Program} {count : ℕ} {head : Head} (number : ℕ) (receiver : Value) (given : List Value) → ProgramTyped members program →
+    slice_get members.methods number ≡ Some head → IsReceiver count head.is_static receiver → Ints head.arity given →
+    Keeps (length members.fields) count outside outside (Holds int) (call_method program (java program) one_class number receiver given)
+call-keeps number receiver given p e r q =
+    let found = p.method number _ e in
+    safe-need _ found.1 (keeps-method (java_keeps p) found.0 receiver given found.2 q (held r))
+  where
+    held : {count : ℕ} {is_static : Bool} {receiver : Value} → IsReceiver count is_static receiver → is_static ≡ false → Holds object count receiver
+    held of_static h = absurd (cc)
+    held (of_instance b) h = an_object b
 
 done : {count : ℕ} {value : Value} (s : State) → Holds int count value → Replies (Done value s)
 done s Holds.an_int = an_int
 
+pub call_replies : (names all_names : List (List ℕ)) (one : OneTree) (program : Program) (number units : ℕ) (receiver : Value) (given : List Value) (objects : List Obj) →
+    Fits names one → Elaborates all_names one program → CallFits (members_of one) number receiver given objects →
+    Replies (call program units one_class number receiver given objects)
+call_replies names all_names one program number units receiver given objects fits q c =
+    (call-keeps number receiver given (program-typed fits q) c.is_method c.is_receiver c.are_ints).run Done ends
+    (record { from = λ u l value h s fine. done s h })
+    (record { leave = λ u l value h s fine. done s h; throw = λ u l exception h s fine. absurd h })
+    (state_at units objects)
+    (record {
+      objects = c.are_own;
+      own = record { this = λ h. absurd (cc); locals = no_more; room = refl };
+    })
+
 pub main_replies : (names all_names : List (List ℕ)) (one : OneTree) (program : Program) (main units : ℕ) → Fits names one →
     Elaborates all_names one program → IsMain names (members_of one) main →
     Replies (call program units one_class main Null [] [])
-main_replies names all_names one program main units fits q is_main = (main-keeps (program-typed fits q) is_main).run Done ends
-    (record { from = λ u l value h s fine. done s h })
-    (record { leave = λ u l value h s fine. done s h; throw = λ u l exception h s fine. absurd h })
-    (state_at units [])
-    (record {
-      objects = record { length_is = refl; all = All-nil (IsOwnObject _) };
-      own = record { this = λ h. absurd (cc); locals = no_more; room = refl };
-    })
+main_replies names all_names one program main units fits q is_main = call_replies names all_names one program main units Null [] [] fits q (record {
+  head = record { name = is_main.name; is_static = true; arity = 0 };
+  is_method = is_main.head;
+  is_receiver = of_static;
+  are_ints = record { length_is = refl; all = All-nil IsInt };
+  are_own = record { length_is = refl; all = All-nil (IsOwnObject _) };
+})
 
 -- what an answer that replies is, and what it is not
 

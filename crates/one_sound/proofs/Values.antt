@@ -14,15 +14,7 @@ use Rattle.one_program.specs.Elaboration.{one_class}
 use Rattle.one_program.specs.declared.scope.Sort.{Sort}
 use Rattle.one_program.specs.declared.scope.Sort.TheVariants.{Int as int, Object as object}
 use Rattle.one_program.specs.declared.scope.Variable.{Variable}
-
--- as many ints
-
-pub data IsInt : Value → Type 0 where
-  is_int : {x : ℤ} → IsInt (Int x)
-
-pub record Ints (count : ℕ) (values : List Value) : Type 0 where
-  pub length_is : length values ≡ count
-  pub all : All IsInt values
+pub use Rattle.one_sound.specs.Fitting.{IsInt, is_int, Ints, IsOwnObject, own_object, ObjectsFit}
 
 pub Ints-get : {count : ℕ} {values : List Value} (at : ℕ) → Ints count values → at < count →
     (x : ℤ) × (slice_get values at ≡ Some (Int x))
@@ -54,15 +46,6 @@ pub Holds-later : {sort : Sort} {count more : ℕ} {value : Value} → count ≤
     Holds sort more value
 Holds-later h an_int = an_int
 Holds-later h (an_object b) = an_object (omega arith)
-
--- an object of the one class
-pub data IsOwnObject (fields : ℕ) : Obj → Type 0 where
-  own_object : {slots : List Value} → Ints fields slots → IsOwnObject fields (Instance one_class slots)
-
--- as many objects, each of the one class
-pub record ObjectsFit (fields count : ℕ) (objects : List Obj) : Type 0 where
-  pub length_is : length objects ≡ count
-  pub all : All (IsOwnObject fields) objects
 
 module _ {fields : ℕ} where
   object_at : {count : ℕ} {objects : List Obj} (at : ℕ) → ObjectsFit fields count objects → at < count →

@@ -1,6 +1,6 @@
 //! Evaluation of a One goes well: laws over the definitions alone, with no code that runs.
 //!
-//! `never_wrong` says how the call of `main` ends, by `specs/Replies.antt`. Whoever runs it by a machine takes from
+//! `calls_reply` says how a call that fits ends, by `specs/Fitting.antt` and `specs/Replies.antt`, and `never_wrong` that of `main`. Whoever runs it by a machine takes from
 //! `not_wrong` that evaluation meets no case that it doesn't have, and from the lemmas beside it in
 //! `proofs/NeverWrong.antt` that a value is an int and that nothing is thrown.
 //!
@@ -15,6 +15,8 @@
 
 ghost use Rattle.std.specs.Prelude.{◌≢◌, ℕ, List, []};
 ghost use Rattle.je_core.specs.declared.program.Program.{Program};
+ghost use Rattle.je_core.specs.declared.object.Obj.{Obj};
+ghost use Rattle.je_core.specs.declared.value.Value.{Value};
 ghost use Rattle.je_core.specs.declared.value.Value.TheVariants.{Null};
 ghost use Rattle.je_java.specs.Meaning.{call};
 ghost use Rattle.je_java.specs.Steps.{Wrong};
@@ -22,7 +24,17 @@ ghost use Rattle.one_syntax.specs.Trees.{OneTree};
 ghost use Rattle.one_program.specs.Conditions.{Fits, IsMain};
 ghost use Rattle.one_program.specs.Elaboration.{Elaborates, one_class};
 ghost use Rattle.one_program.specs.Scope.{members_of};
+ghost use Rattle.one_sound.specs.Fitting.{CallFits};
 ghost use Rattle.one_sound.specs.Replies.{Replies};
+
+/// A call of a One's method ends with an int, or because its units are spent, whatever their number, where the receiver is
+/// an object that is there, or null for a static method, the arguments are as many ints as the method has parameters, and
+/// the world has objects of the One alone.
+pub fn calls_reply()
+    ensures { (names all_names : List (List ℕ)) (one : OneTree) (program : Program) (number units : ℕ) (receiver : Value) (given : List Value) (objects : List Obj) →
+        Fits names one → Elaborates all_names one program → CallFits (members_of one) number receiver given objects →
+        Replies (call program units one_class number receiver given objects) }
+{}
 
 /// The call of a One's `main` ends with an int, or because its units are spent, whatever their number: it throws
 /// nothing, and meets no case that evaluation doesn't have. The core program may use more names than the One.

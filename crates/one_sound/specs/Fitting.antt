@@ -1,0 +1,40 @@
+-- JLS 15.12.3, 15.12.4: what a method of a One may be called with, and in which world.
+use Rattle.std.specs.Prelude.{◌≡◌, ℕ, ◌<◌, ℤ, Bool, true, false, List, length, Some, All, slice_get}
+use Rattle.je_core.specs.declared.object.Obj.{Obj}
+use Rattle.je_core.specs.declared.object.Obj.TheVariants.{Instance}
+use Rattle.je_core.specs.declared.value.ObjId.{ObjId}
+use Rattle.je_core.specs.declared.value.Value.{Value}
+use Rattle.je_core.specs.declared.value.Value.TheVariants.{Int, Null, Ref}
+use Rattle.one_program.specs.Elaboration.{one_class}
+use Rattle.one_program.specs.declared.scope.Head.{Head}
+use Rattle.one_program.specs.Scope.{Members}
+
+pub data IsInt : Value → Type 0 where
+  is_int : {x : ℤ} → IsInt (Int x)
+
+-- as many ints
+pub record Ints (count : ℕ) (values : List Value) : Type 0 where
+  pub length_is : length values ≡ count
+  pub all : All IsInt values
+
+-- an object of the one class
+pub data IsOwnObject (fields : ℕ) : Obj → Type 0 where
+  own_object : {slots : List Value} → Ints fields slots → IsOwnObject fields (Instance one_class slots)
+
+-- as many objects, each of the one class
+pub record ObjectsFit (fields count : ℕ) (objects : List Obj) : Type 0 where
+  pub length_is : length objects ≡ count
+  pub all : All (IsOwnObject fields) objects
+
+-- the receiver of a method: null where it is static, else an object that is there
+pub data IsReceiver (count : ℕ) : Bool → Value → Type 0 where
+  of_static : IsReceiver count true Null
+  of_instance : {o : ObjId} → o.0 < count → IsReceiver count false (Ref o)
+
+-- The class has a method of this number, and receiver, arguments and objects are what it may be called with.
+pub record CallFits (members : Members) (number : ℕ) (receiver : Value) (given : List Value) (objects : List Obj) : Type 0 where
+  pub head : Head
+  pub is_method : slice_get members.methods number ≡ Some head
+  pub is_receiver : IsReceiver (length objects) head.is_static receiver
+  pub are_ints : Ints head.arity given
+  pub are_own : ObjectsFit (length members.fields) (length objects) objects
