@@ -8,7 +8,8 @@
 --
 -- And one that doesn't fit, and goes wrong.
 use Rattle.std.proofs.Common.{◌≡◌, ◌<◌, ℕ, List, [], ◌∷◌, length, Some, None, refl, inl, inr, arith}
-use Rattle.std.specs.Prelude.{slice_get, Bool, pos, true, false, codes}
+use Rattle.std.specs.Prelude.{slice_get, Bool, ℤ, pos, true, false, codes}
+use Rattle.std.proofs.lemmas.List.Elements.{All-nil, All-cons}
 use Rattle.std.specs.declared.rc.Rc.{Rc}
 use Rattle.std.specs.declared.vec.Vec.{Vec}
 use Rattle.std.specs.declared.alloc.Global.{Global}
@@ -19,6 +20,7 @@ use Rattle.je_core.specs.declared.expr.BinOp.TheVariants.{Add}
 use Rattle.je_core.specs.declared.expr.Expr.{Expr}
 use Rattle.je_core.specs.declared.expr.Form.{Form}
 use Rattle.je_core.specs.declared.expr.Form.TheVariants.{Const, Local, This, Field, Assign, Binary, CallVirtual, New}
+use Rattle.je_core.specs.declared.object.Obj.{Obj}
 use Rattle.je_core.specs.declared.object.Obj.TheVariants.{Instance}
 use Rattle.je_core.specs.declared.program.Class.{Class}
 use Rattle.je_core.specs.declared.program.Local.{Local as LocalOf}
@@ -30,7 +32,7 @@ use Rattle.je_core.specs.declared.stmt.Stmt.{Stmt}
 use Rattle.je_core.specs.declared.stmt.StmtForm.{StmtForm}
 use Rattle.je_core.specs.declared.stmt.StmtForm.TheVariants.{Block, Do, Return}
 use Rattle.je_core.specs.declared.types.Ty.{Ty}
-use Rattle.je_core.specs.declared.value.Value.TheVariants.{Int, Null}
+use Rattle.je_core.specs.declared.value.Value.TheVariants.{Int, Null, Ref}
 use Rattle.je_java.specs.Steps.{Done, Wrong}
 use Rattle.je_java.specs.Meaning.{java, meanings, call}
 use Rattle.je_java.specs.Opened.{opened}
@@ -40,8 +42,9 @@ use Rattle.one_program.specs.Scope.{Scope, local_of, members_of, scope_of}
 use Rattle.one_program.specs.declared.scope.Sort.TheVariants.{Object as object}
 use Rattle.one_program.specs.Conditions.{IsIntName, NamesMethod, MemberFits, Fits, IsMain}
 use Rattle.one_program.specs.Elaboration.{one_class, int_type, class_type, void_type, IsLocal, IsOwnField, IsConstant, IsExpr, is_constant, is_local, is_field, is_binary, is_call, calls_own, calls_on, no_exprs, more_exprs, is_declare, is_make, is_assign_field, is_return, is_next, no_locals, more_locals, IsDefaultConstructor, IsMethod, no_methods, past_field, one_method, no_fields, more_fields, Elaborates}
+use Rattle.one_sound.specs.Fitting.{IsInt, is_int, Ints, IsOwnObject, own_object, of_instance, CallFits}
 use Rattle.one_sound.specs.Replies.{Replies}
-use Rattle.one_sound.proofs.NeverWrong.{main_replies, main_not_wrong}
+use Rattle.one_sound.proofs.NeverWrong.{call_replies, main_replies, main_not_wrong}
 
 abbrev id : ℕ → NameId
 id n = record { 0 = n }
@@ -298,6 +301,25 @@ module _ (ptr : Ptr) (global : Global) where
   })
   unfolding java meanings opened layers int_wrap
   reply = refl
+
+  -- it speaks of `more(4)` too, on an object whose field is 3
+  abbrev three : List Obj
+  three = Instance one_class (Int (pos 3) ∷ []) ∷ []
+
+  more_call_fits : CallFits (members_of one) 0 (Ref (record { 0 = 0 })) (Int (pos 4) ∷ []) three
+  more_call_fits = record {
+    head = record { name = id 2; is_static = false; arity = 1 };
+    is_method = refl;
+    is_receiver = of_instance (omega arith);
+    are_ints = ints (pos 4);
+    are_own = record { length_is = refl; all = All-cons (IsOwnObject 1) _ [] (own_object (ints (pos 3))) (All-nil (IsOwnObject 1)) };
+  }
+    where
+      ints : (x : ℤ) → Ints 1 (Int x ∷ [])
+      ints x = record { length_is = refl; all = All-cons IsInt (Int x) [] is_int (All-nil IsInt) }
+
+  more_replies : (units : ℕ) → Replies (call program units one_class 0 (Ref (record { 0 = 0 })) (Int (pos 4) ∷ []) three)
+  more_replies units = call_replies names names one program 0 units _ _ three fits elaborates more_call_fits
 
   -- class One { int more() { return 1; } static int main() { return more(); } }
   --
