@@ -1,6 +1,6 @@
 -- Lists in memory whose elements a walk has renumbered, each in its turn.
 use Rattle.std.proofs.Common.{◌≡◌, ℕ, ◌≤◌, List, [], ◌∷◌, length, map, option_map, refl, ◌∙◌, arith}
-use Rattle.je_core.specs.declared.span.NameId.{NameId}
+use Rattle.je_base.specs.declared.span.NameId.{NameId}
 use Rattle.je_ast.specs.declared.name.Identifier.{Identifier}
 use Rattle.je_ast.specs.declared.name.Name.{Name}
 use Rattle.je_ast.specs.declared.ty_name.TyName.{TyName}

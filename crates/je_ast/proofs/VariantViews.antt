@@ -1,6 +1,6 @@
 -- Each variant in memory that holds a list, and what it is seen as.
 use Rattle.std.proofs.Common.{◌≡◌, ℕ, Bool, Option, map, Vec, Box, Global}
-use Rattle.je_core.specs.declared.span.Span.{Span}
+use Rattle.je_base.specs.declared.span.Span.{Span}
 use Rattle.je_ast.specs.declared.name.Identifier.{Identifier}
 use Rattle.je_ast.specs.declared.name.Name.{Name}
 use Rattle.je_ast.specs.declared.ty_name.TyName

@@ -1,6 +1,6 @@
 -- What is seen of each variant in memory, by what is seen of its parts.
 use Rattle.std.proofs.Common.{◌≡◌, ℕ, Bool, Option, map, Vec, Box, Global, refl}
-use Rattle.je_core.specs.declared.span.Span.{Span}
+use Rattle.je_base.specs.declared.span.Span.{Span}
 use Rattle.je_ast.specs.declared.name.Identifier.{Identifier}
 use Rattle.je_ast.specs.declared.name.Name.{Name}
 use Rattle.je_ast.specs.declared.operator.BinaryOp.{BinaryOp}

@@ -1,7 +1,7 @@
 -- JLS 4, 6.2, 8.1.2, 8.3.1, 8.4.1: names, types, type parameters and formal parameters as they are written, without
 -- where they lie in memory.
 use Rattle.std.specs.Prelude.{ℕ, suc, max, List, [], ◌∷◌, Bool, Option, Some, None}
-use Rattle.je_core.specs.declared.span.Span.{Span}
+use Rattle.je_base.specs.declared.span.Span.{Span}
 use Rattle.je_ast.specs.declared.name.Identifier.{Identifier}
 use Rattle.je_ast.specs.declared.name.Name.{Name}
 use Rattle.je_ast.specs.declared.ty_name.Primitive.{Primitive}

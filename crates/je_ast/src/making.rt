@@ -10,7 +10,7 @@ use crate::expr::Expr;
 use crate::name::{Identifier, Name};
 use crate::stmt::{Block, Catch, ForInit, Group, Stmt, Var};
 use crate::ty_name::TyName;
-use je_core::Span;
+use je_base::Span;
 
 /// A class type.
 pub fn make_class_type(name: Name, args: Vec<TyName>, dims: usize, span: Span) -> TyName

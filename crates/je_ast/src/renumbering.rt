@@ -11,7 +11,7 @@ use crate::expr::Expr;
 use crate::name::{Identifier, Name};
 use crate::stmt::{Block, Catch, ForInit, Group, Label, Stmt, Var};
 use crate::ty_name::TyName;
-use je_core::NameId;
+use je_base::NameId;
 
 fn renumber_identifier(identifier: &mut Identifier, to: &[NameId])
     ensures { identifier.new ≡ renumbered_identifier to.now identifier.old }

@@ -3,7 +3,7 @@ ghost use Rattle.std.specs.Prelude.{◌≡◌};
 ghost use Rattle.je_decode.specs.declared.fault.DecodeFault.TheVariants.{Memory as memory};
 
 use crate::character::Character;
-use je_core::Memory;
+use je_base::Memory;
 use std::alloc::{AllocError, AllocFailed};
 
 /// Why bytes don't decode to characters.

@@ -4,7 +4,7 @@ ghost use Rattle.std.specs.Str.{chars};
 ghost use Rattle.je_decode.specs.Places.{placed};
 
 use crate::character::Character;
-use je_core::Memory;
+use je_base::Memory;
 use std::alloc::Global;
 
 /// The characters of a text, each with its bytes.

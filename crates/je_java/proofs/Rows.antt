@@ -8,7 +8,7 @@ use Rattle.std.specs.Int.{int_wrap}
 use denote.RawPtr.{Ptr}
 use Rattle.je_core.specs.declared.object.Obj.{Obj}
 use Rattle.je_core.specs.declared.object.Obj.TheVariants.{Instance}
-use Rattle.je_core.specs.declared.span.Span.{Span}
+use Rattle.je_base.specs.declared.span.Span.{Span}
 use Rattle.je_core.specs.declared.types.Ty.{Ty}
 use Rattle.je_core.specs.declared.types.Base.TheVariants.{Int as IntBase, Void as VoidBase, Class as ClassBase}
 use Rattle.je_core.specs.declared.value.Value.{Value}

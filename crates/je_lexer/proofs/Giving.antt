@@ -4,11 +4,11 @@ use lib.Signed.{mag}
 use mir.Syntax.{w128}
 use mir.Val.{SFits, to_z, of_z}
 use Rattle.std.proofs.lemmas.Int.{to_z-of_z}
-use Rattle.je_core.specs.Names.{interned, number_of}
-use Rattle.je_core.specs.declared.span.NameId.{NameId}
+use Rattle.je_base.specs.Names.{interned, number_of}
+use Rattle.je_base.specs.declared.span.NameId.{NameId}
 use Rattle.je_decode.specs.declared.character.Character.{Character}
 use Rattle.je_token.specs.declared.token.Token.{Token}
-use Rattle.je_core.specs.declared.span.Span.{Span}
+use Rattle.je_base.specs.declared.span.Span.{Span}
 use Rattle.je_token.specs.declared.token.TokenKind.TheVariants as kind
 use Rattle.je_token.specs.declared.symbol.Symbol.{Symbol}
 use Rattle.je_lexer.specs.Classes.{begins_with}

@@ -2,7 +2,7 @@
 use Rattle.std.proofs.Common.{◌≡◌, ℕ, ◌+◌, ◌∙◌, false, Bool, List, [], ◌∷◌, length, take, drop, refl, sym, ap}
 use Rattle.std.specs.Str.{chars}
 use Rattle.std.proofs.lemmas.Str.{utf8_valid_len-IsValidUpTo}
-use Rattle.je_core.specs.Names.{interned, number_of}
+use Rattle.je_base.specs.Names.{interned, number_of}
 use Rattle.je_decode.specs.Escapes.{piece, turns, Malformed}
 use Rattle.je_decode.specs.Places.{placed}
 use Rattle.je_decode.specs.declared.character.Character.{Character}

@@ -6,9 +6,9 @@ use Rattle.std.specs.Str.{IsValidUpTo, is_utf8}
 use Rattle.std.proofs.lemmas.Bool.{and_parts}
 use Rattle.std.proofs.lemmas.Bool.Decides.{nat_tests}
 use Rattle.std.proofs.lemmas.Str.{IsUtf8-from_is_utf8, is_utf8-from_IsUtf8}
-use Rattle.je_core.proofs.Numbering.{number-push}
-use Rattle.je_core.specs.Names.{interned, interned_by, place_of, number_of, name_at}
-use Rattle.je_core.specs.declared.span.NameId.{NameId}
+use Rattle.je_base.proofs.Numbering.{number-push}
+use Rattle.je_base.specs.Names.{interned, interned_by, place_of, number_of, name_at}
+use Rattle.je_base.specs.declared.span.NameId.{NameId}
 use Rattle.je_decode.specs.Decoding.{Decodes, without_mark}
 use Rattle.je_decode.specs.Escapes.{Escape, Piece, is_hexadecimal, is_high, behind_marks, one_digit, and_digit, escape, opens, if_low, is_low, low_half, with_low, paired, piece, turns, Translates, Malformed}
 use Rattle.je_decode.specs.Places.{placed}

@@ -1,7 +1,7 @@
 -- A file is read from left to right.
 use Rattle.std.proofs.Common.{◌≡◌, ℕ, ◌+◌, ◌<◌, ◌≤◌, List, [], ◌∷◌, ◌++◌, length, take, drop, Option, Some, None, Err, unwrap_or, sym, ◌∙◌, ap, refl, subst, append_assoc, append-nil, length-append, length-drop, arith}
 use Rattle.std.specs.Option.{IfSome}
-use Rattle.je_core.specs.Names.{interned, interned_by, place_of}
+use Rattle.je_base.specs.Names.{interned, interned_by, place_of}
 use Rattle.je_decode.specs.declared.character.Character.{Character}
 use Rattle.je_token.specs.declared.token.Token.{Token}
 use Rattle.je_lexer.specs.Cutting.{cut_at, cut_len}

@@ -2,8 +2,8 @@
 use Rattle.std.proofs.Common.{◌≡◌, ℕ, ◌<◌, ◌≤◌, Bool, true, false, List, [], ◌∷◌, length, Option, Some, None, if◌then◌else◌, All, refl, arith, length-append, drop}
 use Rattle.std.proofs.lemmas.List.Elements.{All-nil, All-cons, All-append}
 use Rattle.std.proofs.lemmas.Option.{slice_get_within}
-use Rattle.je_core.proofs.Numbering.{number-text}
-use Rattle.je_core.specs.Names.{interned, interned_by, place_of}
+use Rattle.je_base.proofs.Numbering.{number-text}
+use Rattle.je_base.specs.Names.{interned, interned_by, place_of}
 use Rattle.je_decode.specs.declared.character.Character.{Character}
 use Rattle.je_token.specs.declared.keyword.Keyword.{Keyword}
 use Rattle.je_token.specs.declared.token.Token.{Token}

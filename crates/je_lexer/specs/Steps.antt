@@ -2,7 +2,7 @@
 use Rattle.std.specs.Prelude.{◌≡◌, ℕ, List, Option, Some, None, Result, Ok, Err}
 use Rattle.je_decode.specs.declared.character.Character.{Character}
 use Rattle.je_token.specs.declared.token.Token.{Token}
-use Rattle.je_core.specs.declared.units.Units.{Units}
+use Rattle.je_base.specs.declared.units.Units.{Units}
 use Rattle.je_lexer.specs.Texts.{Means, HasBadBackslash}
 use Rattle.je_lexer.specs.Tokens.{Gives, IsFault, body}
 use Rattle.je_lexer.specs.declared.fault.FaultKind.TheVariants as fault

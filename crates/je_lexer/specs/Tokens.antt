@@ -2,9 +2,9 @@
 use Rattle.std.specs.Prelude.{◌≡◌, ℕ, ◌-◌, ◌^◌, true, false, nat_lt, ℤ, pos, ◌-ℤ◌, List, [], ◌∷◌, ◌++◌, length, take, Option, Some, None, if◌then◌else◌}
 use Rattle.std.specs.Char.{encode_utf8}
 use Rattle.std.proofs.Math.Utf8.{scalar}
-use Rattle.je_core.specs.Names.{interned, number_of}
-use Rattle.je_core.specs.declared.span.NameId.{NameId}
-use Rattle.je_core.specs.declared.span.Span.{Span}
+use Rattle.je_base.specs.Names.{interned, number_of}
+use Rattle.je_base.specs.declared.span.NameId.{NameId}
+use Rattle.je_base.specs.declared.span.Span.{Span}
 use Rattle.je_decode.specs.declared.character.Character.{Character}
 use Rattle.je_token.specs.declared.keyword.Keyword.{Keyword}
 use Rattle.je_token.specs.declared.token.Token.{Token}

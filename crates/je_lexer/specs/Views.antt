@@ -1,6 +1,6 @@
 -- What functions return, without the references in it.
 use Rattle.std.specs.Prelude.{ℕ, List, [], ◌∷◌, Result, Ok, Err}
-use Rattle.je_core.specs.declared.units.Units.{Units}
+use Rattle.je_base.specs.declared.units.Units.{Units}
 use Rattle.je_decode.specs.declared.character.Character.{Character}
 use Rattle.je_lexer.specs.Texts.{TextPiece, Means, HasBadBackslash}
 use Rattle.je_lexer.specs.declared.texts.PieceFound.{PieceFound}

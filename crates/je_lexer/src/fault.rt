@@ -1,6 +1,6 @@
 //! Why bytes are no tokens.
 
-use je_core::{Memory, Span};
+use je_base::{Memory, Span};
 use std::alloc::AllocFailed;
 
 /// What is wrong, by its number.

@@ -1,6 +1,6 @@
 //! The tokens of a file.
 
-use je_core::{Names, Units};
+use je_base::{Names, Units};
 use je_token::Token;
 
 /// A file's tokens.

@@ -10,7 +10,7 @@ use crate::fault::{FaultKind, LexFault};
 use crate::numbers::Number;
 use crate::texts::{TextFault, read_text};
 use crate::tokens::{make_token, number_kind, number_value, span_of, spell, word_kind};
-use je_core::{Memory, NameId, Names, Span, Units};
+use je_base::{Memory, NameId, Names, Span, Units};
 use je_decode::Character;
 use je_token::{Token, TokenKind};
 use std::alloc::Global;

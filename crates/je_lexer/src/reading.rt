@@ -9,7 +9,7 @@ use crate::cutting::{Cut, cut_at};
 use crate::fault::{FaultKind, LexFault};
 use crate::lexing::Tokens;
 use crate::pieces::lex_piece;
-use je_core::{Memory, NameId, Names, Span};
+use je_base::{Memory, NameId, Names, Span};
 use je_decode::{Character, DecodeFault, decode};
 use je_token::{Token, TokenKind};
 use std::alloc::Global;

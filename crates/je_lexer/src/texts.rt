@@ -3,7 +3,7 @@ ghost use Rattle.std.specs.Prelude.{◌≡◌, ◌≤◌, length, option_map, If
 ghost use Rattle.je_lexer.specs.Texts.{units_of, is_octal, simple_escape, and_octal, and_octals, escape_piece, text_piece};
 ghost use Rattle.je_lexer.specs.Views.{units_said, piece_said, IsRead};
 
-use je_core::{Memory, Units};
+use je_base::{Memory, Units};
 use je_decode::Character;
 use std::alloc::Global;
 

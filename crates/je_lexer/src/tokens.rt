@@ -1,12 +1,12 @@
 //! What token the characters of a piece are.
 ghost use Rattle.std.specs.Prelude.{◌≡◌, ◌<◌, ◌^◌, ℤ, pos, length, IfOk, OnOk, OnErr, Some, string_bytes};
-ghost use Rattle.je_core.specs.Names.{interned, number_of};
+ghost use Rattle.je_base.specs.Names.{interned, number_of};
 ghost use Rattle.je_lexer.specs.Tokens.{first_end, second_end, span_of, token, spelled, word_kind, number_kind, number_value, body, no_name};
 
 use crate::cutting::{end_of, start_of};
 use crate::numbers::Number;
 use crate::words::keyword;
-use je_core::{Memory, NameId, Names, Span, Units};
+use je_base::{Memory, NameId, Names, Span, Units};
 use je_decode::Character;
 use je_token::{Token, TokenKind};
 use std::alloc::Global;

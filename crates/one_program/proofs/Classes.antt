@@ -1,12 +1,12 @@
 -- The members of a class, so far and still to come.
 use Rattle.std.proofs.Common.{◌≡◌, ◌∙◌, ℕ, ◌+◌, ◌≤◌, List, [], ◌∷◌, ◌++◌, drop, length, sym, ap, subst, arith, Option, Some, None, true, false}
 use Rattle.std.specs.Prelude.{IfSome, IfNone, slice_get, codes}
-use Rattle.je_core.specs.Names.{text_of, EachOnce}
+use Rattle.je_base.specs.Names.{text_of, EachOnce}
 use Rattle.one_program.specs.Names.{AreDistinct}
 use Rattle.std.proofs.lemmas.List.{append_assoc, append-nil}
 use Rattle.je_core.specs.declared.program.Field.{Field}
 use Rattle.je_core.specs.declared.program.Method.{Method}
-use Rattle.je_core.specs.declared.span.NameId.{NameId}
+use Rattle.je_base.specs.declared.span.NameId.{NameId}
 use Rattle.one_syntax.specs.Trees.{MemberTree, field, method}
 use Rattle.one_program.specs.Scope.{Members, Head, head_names}
 use Rattle.one_program.specs.Conditions.{MemberFits, MembersFit, is_word, java_lang}

@@ -6,10 +6,10 @@ use Rattle.std.specs.declared.vec.Vec.{Vec}
 use Rattle.std.specs.declared.alloc.Global.{Global}
 use Rattle.je_core.specs.declared.expr.BinOp.{BinOp}
 use Rattle.je_core.specs.declared.expr.Expr.{Expr}
-use Rattle.je_core.specs.declared.span.NameId.{NameId}
+use Rattle.je_base.specs.declared.span.NameId.{NameId}
 use Rattle.one_syntax.specs.declared.tree.Expr.{Expr as Tree, Call, Brackets, Binary}
 use Rattle.one_syntax.proofs.Views.{view_expr-Call}
-use Rattle.je_core.specs.declared.memory.Memory.{Memory}
+use Rattle.je_base.specs.declared.memory.Memory.{Memory}
 use Rattle.one_syntax.specs.Trees.{ExprTree, ExprTrees, name, call, brackets, binary, none, more, view_expr, view_exprs}
 use Rattle.one_program.specs.declared.expr.Elaborated.{Elaborated}
 use Rattle.one_program.specs.declared.expr.Elaborated.TheVariants.{Constant, Node}

@@ -3,7 +3,7 @@ use Rattle.std.proofs.Common.{◌≡◌, ℕ, suc, ◌+◌, ◌-◌, ◌<◌, Li
 use Rattle.std.proofs.lemmas.List.{append_assoc, append-nil}
 use Rattle.je_core.specs.declared.program.Local.{Local}
 use Rattle.je_core.specs.declared.program.Method.{Method}
-use Rattle.je_core.specs.declared.span.NameId.{NameId}
+use Rattle.je_base.specs.declared.span.NameId.{NameId}
 use Rattle.one_syntax.specs.Trees.{StatementTree, ExprTree}
 use Rattle.one_program.specs.declared.body.MadeBody.{MadeBody}
 use Rattle.one_program.specs.Scope.{Head, Variable, Members, scope_of}

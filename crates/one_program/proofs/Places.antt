@@ -1,7 +1,7 @@
 -- Places of names, found by a walk.
 use Rattle.std.proofs.Common.{slice_get, ◌≡◌, ◌∙◌, ℕ, suc, ◌+◌, List, [], ◌∷◌, Option, Some, None, Bool, true, false, refl, sym, ap, arith, map, if◌then◌else◌}
 use Rattle.std.specs.Prelude.{option_map}
-use Rattle.je_core.specs.declared.span.NameId.{NameId}
+use Rattle.je_base.specs.declared.span.NameId.{NameId}
 use Rattle.std.proofs.lemmas.Bool.{eqb-true}
 use Rattle.one_program.specs.Names.{same_name, place_of}
 use Rattle.one_program.specs.Scope.{Head, Variable, head_names, names_of}

@@ -1,6 +1,6 @@
 -- What the code makes of a statement is its node.
 use Rattle.je_core.specs.declared.expr.Expr.{Expr}
-use Rattle.je_core.specs.declared.span.NameId.{NameId}
+use Rattle.je_base.specs.declared.span.NameId.{NameId}
 use Rattle.je_core.specs.declared.stmt.Stmt.{Stmt}
 use Rattle.one_syntax.specs.Trees.{ExprTree, assign}
 use Rattle.one_program.specs.declared.scope.Place.{Place}

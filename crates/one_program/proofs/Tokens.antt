@@ -1,6 +1,6 @@
 -- A One has no more members, parameters and statements than tokens.
 use Rattle.std.proofs.Common.{◌+◌, ◌≤◌, List, length, arith, Option, Bool}
-use Rattle.je_core.specs.declared.span.NameId.{NameId}
+use Rattle.je_base.specs.declared.span.NameId.{NameId}
 use Rattle.one_tokens.specs.declared.token.Token.{Token}
 use Rattle.one_syntax.specs.Trees.{ExprTree, ExprTrees, StatementTree, MemberTree, OneTree}
 use Rattle.one_syntax.specs.Grammar.{SpellsSum, is_product, is_plus, is_minus, SpellsProduct, is_primary, is_times, SpellsPrimary, is_decimal, is_name, is_call, is_brackets, SpellsCall, is_simple, is_on, SpellsArgs, no_args, some_args, SpellsMoreArgs, no_more_args, one_more_arg, SpellsStatement, is_declare, is_make, is_assign, is_perform, SpellsBody, is_return, one_statement, SpellsParams, no_params, last_param, one_param, SpellsMethod, is_method, SpellsMember, is_field, is_static, is_instance, SpellsMembers, no_members, one_member, Spells, is_one}

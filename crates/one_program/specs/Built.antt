@@ -4,7 +4,7 @@ use Rattle.je_core.specs.declared.program.Class.{Class}
 use Rattle.je_core.specs.declared.program.Field.{Field}
 use Rattle.je_core.specs.declared.program.Method.{Method}
 use Rattle.je_core.specs.declared.program.Program.{Program}
-use Rattle.je_core.specs.declared.span.NameId.{NameId}
+use Rattle.je_base.specs.declared.span.NameId.{NameId}
 use Rattle.one_syntax.specs.Trees.{MemberTree}
 use Rattle.one_program.specs.Names.{AreDistinct}
 use Rattle.one_program.specs.Scope.{Members, head_names}

@@ -2,8 +2,8 @@
 use Rattle.std.specs.Prelude.{◌≡◌, ℕ, ◌+◌, ◌≤◌, Bool, true, false, List, [], ◌∷◌, codes, Option, Some, None, IsSome, unwrap_or, slice_get, ◌⊎◌}
 use Rattle.std.specs.List.{list_any}
 use Rattle.std.specs.Str.{bytes_eq}
-use Rattle.je_core.specs.declared.span.NameId.{NameId}
-use Rattle.je_core.specs.Names.{text_of}
+use Rattle.je_base.specs.declared.span.NameId.{NameId}
+use Rattle.je_base.specs.Names.{text_of}
 use Rattle.one_syntax.specs.Trees.{ExprTree, decimal, name, call, brackets, binary, ExprTrees, none, more, StatementTree, declare, make, assign, perform, MemberTree, field, method, OneTree}
 pub use Rattle.one_program.specs.Names.{IsNot, AreDistinct}
 use Rattle.one_program.specs.Scope.{Scope, Members, object, local_of, field_of, method_of, members_of, fields_of, scope_of, after, inside, names_of, head_names}

@@ -14,7 +14,7 @@ use Rattle.je_core.specs.declared.program.Field.{Field}
 use Rattle.je_core.specs.declared.program.Local.{Local}
 use Rattle.je_core.specs.declared.program.Method.{Method}
 use Rattle.je_core.specs.declared.program.Program.{Program}
-use Rattle.je_core.specs.declared.span.NameId.{NameId}
+use Rattle.je_base.specs.declared.span.NameId.{NameId}
 use Rattle.je_core.specs.declared.stmt.Stmt.{Stmt}
 use Rattle.je_core.specs.declared.stmt.StmtForm.{out-StmtForm}
 use Rattle.je_core.specs.declared.stmt.StmtForm.TheOpen as stmt_form
@@ -22,7 +22,7 @@ use Rattle.je_core.specs.declared.types.Base.TheVariants as base
 use Rattle.je_core.specs.declared.types.ClassId.{ClassId}
 use Rattle.je_core.specs.declared.types.Ty.{Ty}
 use Rattle.je_core.specs.declared.value.Value.TheVariants.{Int}
-use Rattle.je_core.specs.Names.{text_of}
+use Rattle.je_base.specs.Names.{text_of}
 use Rattle.one_syntax.specs.Trees.{ExprTree, name, call, brackets, binary, ExprTrees, none, more, StatementTree, declare, make, assign, perform, MemberTree, field, method, OneTree}
 use Rattle.one_program.specs.Scope.{Scope, Members, Variable, Sort, int, object, local_of, field_of, members_of, fields_of, scope_of, after, inside}
 use Rattle.one_program.specs.Constants.{constant_of}

@@ -1,6 +1,6 @@
 -- What a name means at a place of a One (JLS 6.3, 6.4.1, 6.5): the class's members, and the locals declared so far.
 use Rattle.std.specs.Prelude.{ℕ, Bool, List, [], ◌∷◌, ◌++◌, length, map, Option}
-use Rattle.je_core.specs.declared.span.NameId.{NameId}
+use Rattle.je_base.specs.declared.span.NameId.{NameId}
 pub use Rattle.one_program.specs.declared.scope.Head.{Head}
 pub use Rattle.one_program.specs.declared.scope.Sort.{Sort}
 pub use Rattle.one_program.specs.declared.scope.Sort.TheVariants.{Int as int, Object as object}

@@ -1,6 +1,6 @@
 -- What the code's types for names stand for.
 use Rattle.std.specs.Prelude.{◌≡◌, ℕ, false, true, List, ◌∷◌, Option, Some, None, slice_get}
-use Rattle.je_core.specs.declared.span.NameId.{NameId}
+use Rattle.je_base.specs.declared.span.NameId.{NameId}
 use Rattle.one_program.specs.declared.scope.Place.{Place}
 use Rattle.one_program.specs.declared.scope.Place.TheVariants as place
 use Rattle.one_program.specs.declared.scope.Callee.{Callee}

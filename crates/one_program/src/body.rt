@@ -1,7 +1,7 @@
 // Bodies of methods.
 
 ghost use Rattle.std.specs.Prelude.{◌≡◌, ◌+◌, ◌<◌, ◌≤◌, ◌^◌, Bool, List, map, length, OnOk, IfOk, IfSome, OnSome, IfNone};
-ghost use Rattle.je_core.specs.declared.span.NameId.{NameId};
+ghost use Rattle.je_base.specs.declared.span.NameId.{NameId};
 ghost use Rattle.one_syntax.specs.Trees.{view_expr, view_statement};
 ghost use Rattle.one_program.specs.Scope.{Members as MembersOf, scope_of, objects_of, after};
 ghost use Rattle.one_program.specs.Conditions.{BodyFits};

@@ -2,7 +2,7 @@
 
 ghost use Rattle.std.specs.Prelude.{◌≡◌, ℕ, ◌<◌, ◌≤◌, ◌^◌, List, [], codes, true, Some, slice_get, map, length, IsTrue, OnOk, OnErr, IfOk, IfSome, OnSome, IfNone};
 ghost use Rattle.std.specs.Bool.{OnTrue, OnFalse};
-ghost use Rattle.je_core.specs.Names.{interned, text_of};
+ghost use Rattle.je_base.specs.Names.{interned, text_of};
 ghost use Rattle.one_syntax.specs.Trees.{view_member};
 ghost use Rattle.one_program.specs.Scope.{fields_of, heads_of};
 ghost use Rattle.one_program.specs.Conditions.{MemberFits, MembersFit, IsMain};

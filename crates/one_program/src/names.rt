@@ -1,7 +1,7 @@
 // Names among names.
 
 ghost use Rattle.std.specs.Prelude.{◌≡◌, ◌<◌, ◌^◌, ◌↔◌, IsTrue, length, map};
-ghost use Rattle.je_core.specs.declared.span.NameId.{NameId};
+ghost use Rattle.je_base.specs.declared.span.NameId.{NameId};
 ghost use Rattle.one_program.specs.Names.{place_of, IsNot, AreDistinct};
 
 use je_core::NameId;

@@ -1,7 +1,7 @@
 // The whole program.
 
 ghost use Rattle.std.specs.Prelude.{◌≡◌, ◌<◌, ◌^◌, codes, length, IfOk, IfSome, OnSome, OnErr, IfNone};
-ghost use Rattle.je_core.specs.Names.{interned};
+ghost use Rattle.je_base.specs.Names.{interned};
 ghost use Rattle.one_syntax.specs.Trees.{view_one};
 ghost use Rattle.one_program.specs.Scope.{members_of};
 ghost use Rattle.one_program.specs.Conditions.{Fits, IsMain};

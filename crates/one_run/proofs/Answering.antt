@@ -1,6 +1,6 @@
 -- From what each reading says of a file to what the file comes to.
 use Rattle.std.proofs.Common.{◌≡◌, ℕ, ◌≤◌, List, [], Result, Ok, Err, IfOk, codes, sym, subst}
-use Rattle.je_core.specs.Names.{interned}
+use Rattle.je_base.specs.Names.{interned}
 use Rattle.je_core.specs.declared.program.Program.{Program}
 use Rattle.je_core.specs.declared.value.Value.TheVariants.{Null}
 use Rattle.je_java.specs.Steps.{Done, Spent as SpentWith}

@@ -1,6 +1,6 @@
 -- A text has no more tokens and names than characters.
 use Rattle.std.proofs.Common.{◌≡◌, ℕ, suc, ◌+◌, ◌<◌, ◌≤◌, List, [], ◌∷◌, ◌++◌, length, Bool, Option, Some, None, arith, ap, length-append, true, refl}
-use Rattle.je_core.specs.Names.{interned_by, place_of}
+use Rattle.je_base.specs.Names.{interned_by, place_of}
 use Rattle.one_tokens.specs.declared.token.Token.{Token}
 use Rattle.one_tokens.specs.Characters.{begins, is_start, is_digit}
 use Rattle.one_tokens.specs.Lexing.{Lexes, at_end, at_control_z, past_white, keyword, identifier, decimal, sign, is_decimal}

@@ -1,6 +1,6 @@
 -- What a file comes to: where it is a One, the call of its `main`.
 use Rattle.std.specs.Prelude.{◌≡◌, ℕ, ◌≤◌, List, [], codes}
-use Rattle.je_core.specs.Names.{interned}
+use Rattle.je_base.specs.Names.{interned}
 use Rattle.je_core.specs.declared.program.Program.{Program}
 use Rattle.je_core.specs.declared.value.Value.TheVariants.{Int, Null}
 use Rattle.je_java.specs.Steps.{State, Answer as Outcome, Done, Spent as SpentWith}

@@ -2,7 +2,7 @@
 use Rattle.std.proofs.Common.{◌≡◌, ℕ, zero, suc, ◌<◌, List, [], ◌∷◌, ◌++◌, length, map, Option, Some, None, refl, sym, ap, eq-eqb, eqb-true, arith}
 use Rattle.std.specs.Prelude.{Bool, true, false, if◌then◌else◌, option_map, slice_get}
 use Rattle.std.proofs.lemmas.Option.{same_Some}
-use Rattle.je_core.specs.declared.span.NameId.{NameId}
+use Rattle.je_base.specs.declared.span.NameId.{NameId}
 use Rattle.one_program.specs.declared.scope.Sort.{Sort}
 use Rattle.one_program.specs.declared.scope.Sort.TheVariants.{Int as int, Object as object}
 use Rattle.one_program.specs.declared.scope.Variable.{Variable}

@@ -11,7 +11,7 @@ use Rattle.je_core.specs.declared.program.Field.{Field}
 use Rattle.je_core.specs.declared.program.Local.{Local}
 use Rattle.je_core.specs.declared.program.Method.{Method}
 use Rattle.je_core.specs.declared.program.Program.{Program}
-use Rattle.je_core.specs.declared.span.NameId.{NameId}
+use Rattle.je_base.specs.declared.span.NameId.{NameId}
 use Rattle.je_core.specs.declared.stmt.Stmt.{Stmt}
 use Rattle.je_java.specs.Classes.{is_instance, default_slots, slot_after}
 use Rattle.one_syntax.specs.Trees.{ExprTree, StatementTree, MemberTree, OneTree}

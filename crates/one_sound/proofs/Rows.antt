@@ -26,8 +26,8 @@ use Rattle.je_core.specs.declared.program.Class.{Class}
 use Rattle.je_core.specs.declared.program.Local.{Local as LocalOf}
 use Rattle.je_core.specs.declared.program.Method.{Method}
 use Rattle.je_core.specs.declared.program.Program.{Program}
-use Rattle.je_core.specs.declared.span.NameId.{NameId}
-use Rattle.je_core.specs.declared.span.Span.{Span}
+use Rattle.je_base.specs.declared.span.NameId.{NameId}
+use Rattle.je_base.specs.declared.span.Span.{Span}
 use Rattle.je_core.specs.declared.stmt.Stmt.{Stmt}
 use Rattle.je_core.specs.declared.stmt.StmtForm.{StmtForm}
 use Rattle.je_core.specs.declared.stmt.StmtForm.TheVariants.{Block, Do, Return}

@@ -7,7 +7,7 @@ use Rattle.std.specs.declared.alloc.Global.{Global}
 use Rattle.je_core.specs.declared.expr.Expr.{Expr}
 use Rattle.je_core.specs.declared.expr.Form.{out-Form}
 use Rattle.je_core.specs.declared.expr.Form.TheOpen as form
-use Rattle.je_core.specs.declared.span.NameId.{NameId}
+use Rattle.je_base.specs.declared.span.NameId.{NameId}
 use Rattle.je_core.specs.declared.stmt.Stmt.{Stmt}
 use Rattle.je_core.specs.declared.types.Ty.{Ty}
 use Rattle.one_syntax.specs.Trees.{ExprTree, call, ExprTrees, StatementTree, declare, make, assign, perform}

@@ -11,7 +11,7 @@ use Rattle.je_core.specs.declared.expr.Form.TheOpen as form
 use Rattle.je_core.specs.declared.expr.Use.{Use}
 use Rattle.je_core.specs.declared.program.Method.{Method}
 use Rattle.je_core.specs.declared.program.Program.{Program}
-use Rattle.je_core.specs.declared.span.NameId.{NameId}
+use Rattle.je_base.specs.declared.span.NameId.{NameId}
 use Rattle.je_core.specs.declared.stmt.Stmt.{Stmt}
 use Rattle.je_core.specs.declared.stmt.StmtForm.{out-StmtForm}
 use Rattle.je_core.specs.declared.stmt.StmtForm.TheOpen as stmt_form

@@ -3,7 +3,7 @@ use Rattle.std.proofs.Common.{◌≡◌, ℕ, zero, suc, ◌<◌, ◌≤◌, max
 use Rattle.std.proofs.lemmas.Bool.{le-ltb, lt-ltb}
 use Rattle.je_core.specs.declared.expr.BinOp.{BinOp}
 use Rattle.je_core.specs.declared.expr.BinOp.TheVariants.{Mul, Add, Sub}
-use Rattle.je_core.specs.declared.span.NameId.{NameId}
+use Rattle.je_base.specs.declared.span.NameId.{NameId}
 use Rattle.one_tokens.specs.declared.token.Token.{Token}
 use Rattle.one_tokens.specs.declared.token.Token.TheVariants.{Identifier, LeftParen, RightParen, Dot, Plus, Minus, Star}
 use Rattle.one_syntax.specs.Trees.{ExprTree, ExprTrees, append, decimal, name, call, brackets, binary, none, more}

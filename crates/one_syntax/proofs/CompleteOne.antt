@@ -1,7 +1,7 @@
 -- Each class that spells the tokens, and is no higher than was asked, is read again.
 use Rattle.std.proofs.Common.{◌≡◌, ℕ, ◌+◌, ◌≤◌, max, Bool, List, [], ◌∷◌, ◌++◌, length, Option, Some, refl, sym, ap, ◌∙◌, arith}
 use Rattle.std.proofs.lemmas.List.{append_assoc, append-nil}
-use Rattle.je_core.specs.declared.span.NameId.{NameId}
+use Rattle.je_base.specs.declared.span.NameId.{NameId}
 use Rattle.one_tokens.specs.declared.token.Token.{Token}
 use Rattle.one_tokens.specs.declared.token.Token.TheVariants.{Int, Return, Identifier, LeftParen, RightBrace, Semicolon, Comma}
 use Rattle.one_syntax.specs.Trees.{ExprTree, ExprTrees, StatementTree, perform, MemberTree, OneTree}

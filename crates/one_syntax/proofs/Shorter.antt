@@ -2,7 +2,7 @@
 use Rattle.std.proofs.Common.{ℕ, zero, suc, ◌<◌, ◌≤◌, max, nat_lt, List, ◌∷◌, length, Option, Some, None, IfSome, arith}
 use Rattle.je_core.specs.declared.expr.BinOp.{BinOp}
 use Rattle.je_core.specs.declared.expr.BinOp.TheVariants.{Mul, Add, Sub}
-use Rattle.je_core.specs.declared.span.NameId.{NameId}
+use Rattle.je_base.specs.declared.span.NameId.{NameId}
 use Rattle.one_tokens.specs.declared.token.Token.{Token}
 use Rattle.one_tokens.specs.declared.token.Token.TheVariants.{Identifier, Decimal, LeftParen, RightParen, Comma, Dot, Plus, Minus, Star}
 use Rattle.one_syntax.specs.Trees.{ExprTree, ExprTrees, none, more}

@@ -1,7 +1,7 @@
 -- A class that is read spells its tokens, and is no higher than was asked.
 use Rattle.std.proofs.Common.{◌≡◌, ℕ, zero, suc, ◌+◌, ◌<◌, ◌≤◌, Bool, true, false, List, [], ◌∷◌, ◌++◌, length, IfSome, refl, sym, ◌∙◌, subst, arith}
 use Rattle.std.proofs.lemmas.List.{append_assoc, append-nil}
-use Rattle.je_core.specs.declared.span.NameId.{NameId}
+use Rattle.je_base.specs.declared.span.NameId.{NameId}
 use Rattle.one_tokens.specs.declared.token.Token.{Token}
 use Rattle.one_tokens.specs.declared.token.Token.TheVariants.{Class, Int, Static, Return, New, Identifier, LeftParen, RightParen, LeftBrace, RightBrace, Semicolon, Comma, Dot, Assign}
 use Rattle.one_syntax.specs.Trees.{ExprTree, StatementTree, MemberTree, OneTree}

@@ -1,7 +1,7 @@
 -- The loops over statements, members and parameters.
 use Rattle.std.proofs.Common.{◌≡◌, ℕ, zero, suc, ◌+◌, ◌<◌, ◌≤◌, Bool, true, false, List, [], ◌∷◌, ◌++◌, map, length, Some, None, IfSome, refl, sym, ◌∙◌, arith}
 use Rattle.std.proofs.lemmas.List.{map_push}
-use Rattle.je_core.specs.declared.span.NameId.{NameId}
+use Rattle.je_base.specs.declared.span.NameId.{NameId}
 use Rattle.one_tokens.specs.declared.token.Token.{Token}
 use Rattle.one_tokens.specs.declared.token.Token.TheVariants.{Int, Static, Return, New, Identifier, LeftParen, RightParen, LeftBrace, RightBrace, Semicolon, Comma, Dot, Assign}
 use Rattle.one_syntax.specs.declared.tree.Statement.{Statement}

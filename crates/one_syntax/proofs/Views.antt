@@ -1,7 +1,7 @@
 -- The list of a call's arguments, seen as trees.
 use Rattle.std.proofs.Common.{◌≡◌, Vec, Global, Option, refl, ap, ◌∙◌}
 use mathlib.Core.Former.{Count}
-use Rattle.je_core.specs.declared.span.NameId.{NameId}
+use Rattle.je_base.specs.declared.span.NameId.{NameId}
 use Rattle.one_syntax.specs.declared.tree.Expr.{Expr, Call, Call', Row_of-Expr, end_of-Expr, more_of-Expr, items-the_row-Expr, items_hidden-the_row-Expr-0}
 use Rattle.one_syntax.specs.Trees.{call, more, view_expr, view_row, view_exprs}
 

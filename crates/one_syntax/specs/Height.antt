@@ -2,7 +2,7 @@
 -- Each operator, call, bracket pair, creation, name and literal is one expression. An assignment and a call that are
 -- statements are an expression below a statement. A method's body is a block, which is a statement.
 use Rattle.std.specs.Prelude.{ℕ, suc, max, List, [], ◌∷◌, Option, Some, None}
-use Rattle.je_core.specs.declared.span.NameId.{NameId}
+use Rattle.je_base.specs.declared.span.NameId.{NameId}
 use Rattle.one_syntax.specs.Trees.{ExprTree, decimal, name, call, brackets, binary, ExprTrees, none, more, StatementTree, declare, make, assign, perform, MemberTree, field, method, OneTree}
 
 -- a name before a point is an expression

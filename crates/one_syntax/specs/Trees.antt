@@ -1,7 +1,7 @@
 -- The trees of a One, without where they lie in memory.
 use Rattle.std.specs.Prelude.{ℕ, Bool, List, [], ◌∷◌, map, Option}
 use Rattle.je_core.specs.declared.expr.BinOp.{BinOp}
-use Rattle.je_core.specs.declared.span.NameId.{NameId}
+use Rattle.je_base.specs.declared.span.NameId.{NameId}
 use Rattle.one_syntax.specs.declared.tree.Expr.{Expr, Decimal, Name, Call', Brackets', Binary', Row_of-Expr, end_of-Expr, more_of-Expr}
 use Rattle.one_syntax.specs.declared.tree.Statement.{Statement}
 use Rattle.one_syntax.specs.declared.tree.Statement.TheVariants as statement

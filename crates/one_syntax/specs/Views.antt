@@ -2,7 +2,7 @@
 use Rattle.std.specs.Prelude.{◌≡◌, ℕ, ◌≤◌, ◌<◌, List, length, map, Option, Some, None, IfSome}
 use denote.Ref.{Bor}
 use Rattle.je_core.specs.declared.expr.BinOp.{BinOp}
-use Rattle.je_core.specs.declared.span.NameId.{NameId}
+use Rattle.je_base.specs.declared.span.NameId.{NameId}
 use Rattle.one_tokens.specs.declared.token.Token.{Token}
 use Rattle.one_syntax.specs.declared.expressions.Found.{Found}
 use Rattle.one_syntax.specs.declared.expressions.FoundArgs.{FoundArgs}

@@ -5,7 +5,7 @@ use Rattle.std.specs.Str.{bytes_eq}
 use Rattle.std.proofs.lemmas.Slice.Eq.{bytes_eq-Decides}
 use Rattle.std.specs.List.{list_all}
 use Rattle.std.proofs.lemmas.Bool.Decides.{nat_tests}
-use Rattle.je_core.specs.Names.{interned}
+use Rattle.je_base.specs.Names.{interned}
 use Rattle.je_table.specs.Tables.{place_of}
 use Rattle.je_table.specs.Words.{keywords}
 use Rattle.one_tokens.specs.declared.token.Token.{Token}

@@ -3,7 +3,7 @@ use Rattle.std.proofs.Common.{◌≡◌, ℕ, ◌≤◌, List, [], ◌∷◌, �
 use Rattle.std.specs.Prelude.{nat_le}
 use Rattle.std.specs.List.{prefix_len}
 use Rattle.std.proofs.lemmas.Bool.Decides.{nat_tests}
-use Rattle.je_core.specs.Names.{interned}
+use Rattle.je_base.specs.Names.{interned}
 use Rattle.je_table.specs.Tables.{place_of}
 use Rattle.je_table.specs.Words.{keywords}
 use Rattle.one_tokens.specs.declared.token.Token.{Token}

@@ -1,7 +1,7 @@
 -- What stands at the front of a text, as the code cuts it: the longest run of identifier characters, or one character.
 use Rattle.std.specs.Prelude.{ℕ, zero, suc, ◌==◌, ◌&&◌, nat_le, Bool, false, not, List, [], ◌∷◌, ◌++◌, take, drop, Option, Some, None, if◌then◌else◌}
 use Rattle.std.specs.List.{prefix_len}
-use Rattle.je_core.specs.Names.{interned}
+use Rattle.je_base.specs.Names.{interned}
 use Rattle.je_table.specs.Tables.{place_of}
 use Rattle.je_table.specs.Words.{keywords}
 use Rattle.one_tokens.specs.declared.token.Token.{Token}

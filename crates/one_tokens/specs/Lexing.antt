@@ -4,8 +4,8 @@
 use Rattle.std.specs.Prelude.{◌≡◌, ℕ, ◌+◌, ◌-◌, ◌*◌, ◌≤◌, ◌==◌, ◌&&◌, ◌||◌, Bool, true, false, List, [], ◌∷◌, ◌++◌, codes, Option, Some, None, unwrap_or, nat_le, if◌then◌else◌}
 use Rattle.std.specs.List.{list_all}
 use Rattle.std.specs.Str.{bytes_eq}
-use Rattle.je_core.specs.declared.span.NameId.{NameId}
-use Rattle.je_core.specs.Names.{interned, number_of, name_at}
+use Rattle.je_base.specs.declared.span.NameId.{NameId}
+use Rattle.je_base.specs.Names.{interned, number_of, name_at}
 use Rattle.je_table.specs.Tables.{place_of}
 use Rattle.je_table.specs.Words.{keywords}
 use Rattle.one_tokens.specs.declared.token.Token.{Token}

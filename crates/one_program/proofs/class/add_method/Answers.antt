@@ -1,6 +1,6 @@
 use Rattle.std.proofs.Common.{List, [], ◌∷◌, map, sym, subst}
 use Rattle.std.proofs.lemmas.List.{append-nil}
-use Rattle.je_core.specs.declared.span.NameId.{NameId}
+use Rattle.je_base.specs.declared.span.NameId.{NameId}
 use Rattle.one_syntax.specs.declared.tree.Statement.{Statement}
 use Rattle.one_syntax.specs.Trees.{view_expr, view_statement}
 use Rattle.one_program.specs.Elaboration.{IsMethod, past_field, one_method}

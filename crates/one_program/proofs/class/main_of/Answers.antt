@@ -3,8 +3,8 @@ use Rattle.std.proofs.lemmas.List.{map-id}
 use Rattle.one_program.specs.Names.{AreDistinct}
 use Rattle.one_program.specs.Scope.{Head, head_names}
 use Rattle.one_program.specs.Conditions.{is_word, java_lang}
-use Rattle.je_core.specs.declared.span.NameId.{NameId}
-use Rattle.je_core.proofs.Numbering.{number-text, place-absent, none-place}
+use Rattle.je_base.specs.declared.span.NameId.{NameId}
+use Rattle.je_base.proofs.Numbering.{number-text, place-absent, none-place}
 use Rattle.one_program.proofs.Classes.{main-found, main-none}
 use Rattle.one_program.proofs.class.main_of.Goals as goal
 

@@ -1,6 +1,6 @@
 use Rattle.std.proofs.Common.{◌∙◌, ◌+◌, List, [], ◌∷◌, ◌++◌, drop, map, sym, ap}
 use Rattle.std.proofs.lemmas.List.{append_assoc, drop_more}
-use Rattle.je_core.specs.declared.span.NameId.{NameId}
+use Rattle.je_base.specs.declared.span.NameId.{NameId}
 use Rattle.je_core.specs.declared.types.Ty.{Ty}
 use Rattle.one_program.specs.Elaboration.{int_type}
 use Rattle.one_program.proofs.method.int_types.Goals as goal

@@ -1,6 +1,6 @@
 use Rattle.std.proofs.Common.{◌≡◌, ◌∙◌, List, map, sym, ap, subst}
 use Rattle.je_core.specs.declared.program.Field.{Field}
-use Rattle.je_core.specs.declared.span.NameId.{NameId}
+use Rattle.je_base.specs.declared.span.NameId.{NameId}
 use Rattle.one_syntax.specs.declared.tree.Member.{Member}
 use Rattle.one_syntax.specs.Trees.{view_member, view_one}
 use Rattle.one_program.specs.Scope.{Members, fields_of}

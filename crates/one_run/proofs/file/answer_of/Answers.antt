@@ -1,7 +1,7 @@
 -- A file is a One where each reading says so, and none where one doesn't.
 use Rattle.std.proofs.Common.{◌≡◌, ◌≤◌, ◌+◌, ℕ, List, [], length, Some, None, IfOk, codes, sym, ap, ◌∙◌, subst, arith}
 use Rattle.std.specs.Prelude.{IfSome, IfNone, OnSome}
-use Rattle.je_core.specs.Names.{interned}
+use Rattle.je_base.specs.Names.{interned}
 use Rattle.one_tokens.specs.declared.token.Token.{Token}
 use Rattle.one_tokens.specs.Lexing.{Lexes}
 use Rattle.one_syntax.specs.Grammar.{Spells}
