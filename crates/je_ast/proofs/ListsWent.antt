@@ -14,7 +14,7 @@ use Rattle.je_ast.specs.declared.decl.Member.{Member}
 use Rattle.je_ast.specs.declared.decl.Decl.{Decl}
 use Rattle.je_ast.specs.declared.decl.TypeParam.{TypeParam}
 use Rattle.je_ast.specs.declared.decl.Formal.{Formal}
-use Rattle.je_ast.specs.Types.{name_of, types_of, type_if, parameter_of, formal_of}
+use Rattle.je_ast.specs.Types.{name_view, type_views_of, type_view_of_option, parameter_view, formal_view}
 use Rattle.je_ast.specs.Trees.{Labels, no_labels, case_label, default_label}
 use Rattle.je_ast.specs.View.{views_of, view_of_option, statement_views_of, variable_views_of, label_views_of, group_views_of, catch_views_of, member_views_of, declaration_view}
 use Rattle.je_ast.specs.Seen.{type_seen, expression_seen, statement_seen, member_seen, declaration_seen}
@@ -30,9 +30,9 @@ identifiers_went to _ (x ∷ xs) _ yet le = elim le [ ]
 identifiers_went to _ _ _ (more a w) le = rw (a, identifiers_went to _ _ _ w (omega arith))
 
 abbrev pub NameBecame : List NameId → Name → Name → Type 0
-NameBecame to x y = name_of y ≡ renumbered_name to (name_of x)
+NameBecame to x y = name_view y ≡ renumbered_name to (name_view x)
 
-pub names_went : (to : List NameId) (n : ℕ) (before now : List Name) → Went (NameBecame to) n before now → length before ≤ n → map name_of now ≡ map (renumbered_name to) (map name_of before)
+pub names_went : (to : List NameId) (n : ℕ) (before now : List Name) → Went (NameBecame to) n before now → length before ≤ n → map name_view now ≡ map (renumbered_name to) (map name_view before)
 names_went to _ [] _ yet le = refl
 names_went to _ (x ∷ xs) _ yet le = elim le [ ]
 names_went to _ _ _ (more a w) le = rw (a, names_went to _ _ _ w (omega arith))
@@ -40,16 +40,16 @@ names_went to _ _ _ (more a w) le = rw (a, names_went to _ _ _ w (omega arith))
 abbrev pub TypeBecame : List NameId → TyName → TyName → Type 0
 TypeBecame to x y = type_seen y ≡ renumbered_type to (type_seen x)
 
-pub types_went : (to : List NameId) (n : ℕ) (before now : List TyName) → Went (TypeBecame to) n before now → length before ≤ n → types_of now ≡ renumbered_types to (types_of before)
+pub types_went : (to : List NameId) (n : ℕ) (before now : List TyName) → Went (TypeBecame to) n before now → length before ≤ n → type_views_of now ≡ renumbered_types to (type_views_of before)
 unfolding type_seen
 types_went to _ [] _ yet le = refl
 types_went to _ (x ∷ xs) _ yet le = elim le [ ]
 types_went to _ _ _ (more a w) le = rw (a, types_went to _ _ _ w (omega arith))
 
 abbrev pub ParamBecame : List NameId → TypeParam → TypeParam → Type 0
-ParamBecame to x y = (y.name ≡ renumbered_identifier to x.name) × (type_if y.bound ≡ option_map (renumbered_type to) (type_if x.bound))
+ParamBecame to x y = (y.name ≡ renumbered_identifier to x.name) × (type_view_of_option y.bound ≡ option_map (renumbered_type to) (type_view_of_option x.bound))
 
-pub params_went : (to : List NameId) (n : ℕ) (before now : List TypeParam) → Went (ParamBecame to) n before now → length before ≤ n → map parameter_of now ≡ map (renumbered_parameter to) (map parameter_of before)
+pub params_went : (to : List NameId) (n : ℕ) (before now : List TypeParam) → Went (ParamBecame to) n before now → length before ≤ n → map parameter_view now ≡ map (renumbered_parameter to) (map parameter_view before)
 params_went to _ [] _ yet le = refl
 params_went to _ (x ∷ xs) _ yet le = elim le [ ]
 params_went to _ _ _ (more a w) le = rw (a.0, a.1, params_went to _ _ _ w (omega arith))
@@ -57,7 +57,7 @@ params_went to _ _ _ (more a w) le = rw (a.0, a.1, params_went to _ _ _ w (omega
 abbrev pub FormalBecame : List NameId → Formal → Formal → Type 0
 FormalBecame to x y = (y.is_final ≡ x.is_final) × (type_seen y.ty ≡ renumbered_type to (type_seen x.ty)) × (y.name ≡ renumbered_identifier to x.name) × (y.dims ≡ x.dims)
 
-pub formals_went : (to : List NameId) (n : ℕ) (before now : List Formal) → Went (FormalBecame to) n before now → length before ≤ n → map formal_of now ≡ map (renumbered_formal to) (map formal_of before)
+pub formals_went : (to : List NameId) (n : ℕ) (before now : List Formal) → Went (FormalBecame to) n before now → length before ≤ n → map formal_view now ≡ map (renumbered_formal to) (map formal_view before)
 unfolding type_seen
 formals_went to _ [] _ yet le = refl
 formals_went to _ (x ∷ xs) _ yet le = elim le [ ]
@@ -98,7 +98,7 @@ groups_went to _ (x ∷ xs) _ yet le = elim le [ ]
 groups_went to _ _ _ (more a w) le = rw (a.0, a.1, groups_went to _ _ _ w (omega arith))
 
 abbrev pub CatchBecame : List NameId → Catch → Catch → Type 0
-CatchBecame to x y = (y.is_final ≡ x.is_final) × (name_of y.class ≡ renumbered_name to (name_of x.class)) × (y.name ≡ renumbered_identifier to x.name) × (y.block.opening ≡ x.block.opening) × (statement_views_of y.block.stmts.items ≡ renumbered_statements to (statement_views_of x.block.stmts.items)) × (y.block.closing ≡ x.block.closing)
+CatchBecame to x y = (y.is_final ≡ x.is_final) × (name_view y.class ≡ renumbered_name to (name_view x.class)) × (y.name ≡ renumbered_identifier to x.name) × (y.block.opening ≡ x.block.opening) × (statement_views_of y.block.stmts.items ≡ renumbered_statements to (statement_views_of x.block.stmts.items)) × (y.block.closing ≡ x.block.closing)
 
 pub catches_went : (to : List NameId) (n : ℕ) (before now : List Catch) → Went (CatchBecame to) n before now → length before ≤ n → catch_views_of now ≡ renumbered_catches to (catch_views_of before)
 catches_went to _ [] _ yet le = refl

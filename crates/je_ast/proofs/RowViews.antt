@@ -11,16 +11,16 @@ use Rattle.je_ast.specs.declared.stmt.Catch.{Catch}
 use Rattle.je_ast.specs.declared.stmt.Block.{Block}
 use Rattle.je_ast.specs.declared.decl.Member.{Member, back-Member-Method-5}
 use Rattle.je_ast.specs.declared.decl.ConstructorCall.TheBlock.{hidden-the_row-Expr-0, hidden-the_row-Member-1, hidden-the_row-Var-2, hidden-the_row-Stmt-3, hidden-the_row-Group-5, hidden-the_row-Catch-6}
-use Rattle.je_ast.specs.Types.{more_types, type_of, types_in, types_of}
+use Rattle.je_ast.specs.Types.{more_types, type_view, type_views, type_views_of}
 use Rattle.je_ast.specs.Trees as tree
 use Rattle.je_ast.specs.View.{view, views, view_if, statement_view, statement_views, variable_views, group_views, label_views, catch_views, member_view, member_views, block_view_if, views_of, view_of_option, statement_views_of, variable_views_of, label_views_of, group_views_of, catch_views_of, member_views_of, block_view_of_option}
 
-types_in-row : (n : _) (row : Row_of-TyName n) → types_in row ≡ types_of (items-the_row-TyName n row)
-types_in-row n end_of-TyName = refl
-types_in-row n (more_of-TyName x rest) = ap (more_types (type_of x)) (types_in-row _ rest)
+type_views-row : (n : _) (row : Row_of-TyName n) → type_views row ≡ type_views_of (items-the_row-TyName n row)
+type_views-row n end_of-TyName = refl
+type_views-row n (more_of-TyName x rest) = ap (more_types (type_view x)) (type_views-row _ rest)
 
-pub types_in-hidden : (xs : Vec TyName Global) → types_in (hidden-the_row-TyName-0 xs) ≡ types_of xs.items
-types_in-hidden xs = types_in-row _ (hidden-the_row-TyName-0 xs) ∙ ap types_of (items_hidden-the_row-TyName-0 xs)
+pub type_views-hidden : (xs : Vec TyName Global) → type_views (hidden-the_row-TyName-0 xs) ≡ type_views_of xs.items
+type_views-hidden xs = type_views-row _ (hidden-the_row-TyName-0 xs) ∙ ap type_views_of (items_hidden-the_row-TyName-0 xs)
 
 views-row : (n : _) (row : Row_of-Expr n) → views row ≡ views_of (items-the_row-Expr n row)
 views-row n end_of-Expr = refl

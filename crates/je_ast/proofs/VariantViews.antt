@@ -24,14 +24,14 @@ use Rattle.je_ast.specs.declared.decl.ConstructorCall.{ConstructorCall}
 use Rattle.je_ast.specs.declared.decl.Modifier.{Modifier}
 use Rattle.je_ast.specs.declared.decl.TypeParam.{TypeParam}
 use Rattle.je_ast.specs.declared.decl.Formal.{Formal}
-use Rattle.je_ast.specs.Types.{class_type, name_of, type_of, types_of, type_if, parameter_of, formal_of}
+use Rattle.je_ast.specs.Types.{class_type, name_view, type_view, type_views_of, type_view_of_option, parameter_view, formal_view}
 use Rattle.je_ast.specs.Trees as tree
-use Rattle.je_ast.specs.View.{view, views_of, view_of_option, statement_view, statement_views_of, variable_views_of, group_views_of, catch_views_of, start_view, first_call_view, member_view, member_views_of, block_view_of_option, declaration_view}
-use Rattle.je_ast.proofs.RowViews.{types_in-hidden, views-hidden, view_if-back, variable_views-hidden, statement_views-hidden, group_views-hidden, catch_views-hidden, member_views-hidden, block_view_if-back}
+use Rattle.je_ast.specs.View.{view, views_of, view_of_option, statement_view, statement_views_of, variable_views_of, group_views_of, catch_views_of, for_initializer_view, constructor_invocation_view, member_view, member_views_of, block_view_of_option, declaration_view}
+use Rattle.je_ast.proofs.RowViews.{type_views-hidden, views-hidden, view_if-back, variable_views-hidden, statement_views-hidden, group_views-hidden, catch_views-hidden, member_views-hidden, block_view_if-back}
 
-pub type_of-Class : (name : Name) (args : Vec TyName Global) (dims : ℕ) (span : Span) →
-    type_of (TyName.Class name args dims span) ≡ class_type (name_of name) (types_of args.items) dims span
-type_of-Class name args dims span = rw (types_in-hidden args)
+pub type_view-Class : (name : Name) (args : Vec TyName Global) (dims : ℕ) (span : Span) →
+    type_view (TyName.Class name args dims span) ≡ class_type (name_view name) (type_views_of args.items) dims span
+type_view-Class name args dims span = rw (type_views-hidden args)
 
 pub view-Call : (method : Identifier) (args : Vec Expr Global) (span : Span) →
     view (Expr.Call method args span) ≡ tree.call method (views_of args.items) span
@@ -46,15 +46,15 @@ pub view-SuperCall : (word : Span) (method : Identifier) (args : Vec Expr Global
 view-SuperCall word method args span = rw (views-hidden args)
 
 pub view-New : (word : Span) (class : TyName) (args : Vec Expr Global) (span : Span) →
-    view (Expr.New word class args span) ≡ tree.new_object word (type_of class) (views_of args.items) span
+    view (Expr.New word class args span) ≡ tree.new_object word (type_view class) (views_of args.items) span
 view-New word class args span = rw (views-hidden args)
 
 pub view-NewAnonymous : (word : Span) (class : TyName) (args : Vec Expr Global) (body : Vec Member Global) (span : Span) →
-    view (Expr.NewAnonymous word class args body span) ≡ tree.new_anonymous word (type_of class) (views_of args.items) (member_views_of body.items) span
+    view (Expr.NewAnonymous word class args body span) ≡ tree.new_anonymous word (type_view class) (views_of args.items) (member_views_of body.items) span
 view-NewAnonymous word class args body span = rw ((views-hidden args), (member_views-hidden body))
 
 pub view-NewArray : (element : TyName) (lengths : Vec Expr Global) (dims : ℕ) (span : Span) →
-    view (Expr.NewArray element lengths dims span) ≡ tree.new_array (type_of element) (views_of lengths.items) dims span
+    view (Expr.NewArray element lengths dims span) ≡ tree.new_array (type_view element) (views_of lengths.items) dims span
 view-NewArray element lengths dims span = rw (views-hidden lengths)
 
 pub view-ArrayInit : (values : Vec Expr Global) (span : Span) →
@@ -66,11 +66,11 @@ pub statement_view-Block : (block : Block) →
 statement_view-Block block = rw (statement_views-hidden block.stmts)
 
 pub statement_view-Local : (first : Span) (is_final : Bool) (ty : TyName) (vars : Vec Var Global) (span : Span) →
-    statement_view (Stmt.Local first is_final ty vars span) ≡ tree.local first is_final (type_of ty) (variable_views_of vars.items) span
+    statement_view (Stmt.Local first is_final ty vars span) ≡ tree.local first is_final (type_view ty) (variable_views_of vars.items) span
 statement_view-Local first is_final ty vars span = rw (variable_views-hidden vars)
 
 pub statement_view-For : (first : Span) (init : ForInit) (condition : Option Expr) (steps : Vec Expr Global) (body : Box Stmt Global) (span : Span) →
-    statement_view (Stmt.For first init condition steps body span) ≡ tree.for first (start_view init) (view_of_option condition) (views_of steps.items) (statement_view body.value) span
+    statement_view (Stmt.For first init condition steps body span) ≡ tree.for first (for_initializer_view init) (view_of_option condition) (views_of steps.items) (statement_view body.value) span
 statement_view-For first init condition steps body span = rw ((view_if-back condition), (views-hidden steps))
 
 pub statement_view-Switch : (first : Span) (selector : Expr) (groups : Vec Group Global) (span : Span) →
@@ -89,28 +89,28 @@ pub statement_view-TryFinally : (first : Span) (block : Block) (catches : Vec Ca
     statement_view (Stmt.TryFinally first block catches word last span) ≡ tree.try_finally first block.opening (statement_views_of block.stmts.items) block.closing (catch_views_of catches.items) word last.opening (statement_views_of last.stmts.items) last.closing span
 statement_view-TryFinally first block catches word last span = rw ((statement_views-hidden block.stmts), (catch_views-hidden catches), (statement_views-hidden last.stmts))
 
-pub start_view-Locals : (is_final : Bool) (ty : TyName) (vars : Vec Var Global) →
-    start_view (ForInit.Locals is_final ty vars) ≡ tree.locals is_final (type_of ty) (variable_views_of vars.items)
-start_view-Locals is_final ty vars = rw (variable_views-hidden vars)
+pub for_initializer_view-Locals : (is_final : Bool) (ty : TyName) (vars : Vec Var Global) →
+    for_initializer_view (ForInit.Locals is_final ty vars) ≡ tree.locals is_final (type_view ty) (variable_views_of vars.items)
+for_initializer_view-Locals is_final ty vars = rw (variable_views-hidden vars)
 
-pub start_view-Steps : (steps : Vec Expr Global) →
-    start_view (ForInit.Steps steps) ≡ tree.steps (views_of steps.items)
-start_view-Steps steps = rw (views-hidden steps)
+pub for_initializer_view-Steps : (steps : Vec Expr Global) →
+    for_initializer_view (ForInit.Steps steps) ≡ tree.steps (views_of steps.items)
+for_initializer_view-Steps steps = rw (views-hidden steps)
 
-pub first_call_view-Explicit : (is_super : Bool) (word : Span) (args : Vec Expr Global) →
-    first_call_view (ConstructorCall.Explicit is_super word args) ≡ tree.explicit is_super word (views_of args.items)
-first_call_view-Explicit is_super word args = rw (views-hidden args)
+pub constructor_invocation_view-Explicit : (is_super : Bool) (word : Span) (args : Vec Expr Global) →
+    constructor_invocation_view (ConstructorCall.Explicit is_super word args) ≡ tree.explicit is_super word (views_of args.items)
+constructor_invocation_view-Explicit is_super word args = rw (views-hidden args)
 
 pub member_view-Field : (modifiers : Vec Modifier Global) (ty : TyName) (vars : Vec Var Global) (span : Span) →
-    member_view (MemberNode.Field modifiers ty vars span) ≡ tree.field modifiers.items (type_of ty) (variable_views_of vars.items) span
+    member_view (MemberNode.Field modifiers ty vars span) ≡ tree.field modifiers.items (type_view ty) (variable_views_of vars.items) span
 member_view-Field modifiers ty vars span = rw (variable_views-hidden vars)
 
 pub member_view-Method : (modifiers : Vec Modifier Global) (result : Option TyName) (name : Identifier) (formals : Vec Formal Global) (throws : Vec Name Global) (body : Option Block) (span : Span) →
-    member_view (MemberNode.Method modifiers result name formals throws body span) ≡ tree.method modifiers.items (type_if result) name (map formal_of formals.items) (map name_of throws.items) (block_view_of_option body) span
+    member_view (MemberNode.Method modifiers result name formals throws body span) ≡ tree.method modifiers.items (type_view_of_option result) name (map formal_view formals.items) (map name_view throws.items) (block_view_of_option body) span
 member_view-Method modifiers result name formals throws body span = rw (block_view_if-back body)
 
 pub member_view-Constructor : (modifiers : Vec Modifier Global) (name : Identifier) (formals : Vec Formal Global) (throws : Vec Name Global) (call : ConstructorCall) (body : Block) (span : Span) →
-    member_view (MemberNode.Constructor modifiers name formals throws call body span) ≡ tree.constructor modifiers.items name (map formal_of formals.items) (map name_of throws.items) (first_call_view call) body.opening (statement_views_of body.stmts.items) body.closing span
+    member_view (MemberNode.Constructor modifiers name formals throws call body span) ≡ tree.constructor modifiers.items name (map formal_view formals.items) (map name_view throws.items) (constructor_invocation_view call) body.opening (statement_views_of body.stmts.items) body.closing span
 member_view-Constructor modifiers name formals throws call body span = rw (statement_views-hidden body.stmts)
 
 pub member_view-Initializer : (word : Option Span) (body : Block) (span : Span) →
@@ -118,9 +118,9 @@ pub member_view-Initializer : (word : Option Span) (body : Block) (span : Span) 
 member_view-Initializer word body span = rw (statement_views-hidden body.stmts)
 
 pub declaration_view-Class : (modifiers : Vec Modifier Global) (name : Identifier) (params : Vec TypeParam Global) (extends : Option TyName) (implements : Vec TyName Global) (body : Vec Member Global) (span : Span) →
-    declaration_view (Decl.Class modifiers name params extends implements body span) ≡ tree.class_declaration modifiers.items name (map parameter_of params.items) (type_if extends) (types_of implements.items) (member_views_of body.items) span
+    declaration_view (Decl.Class modifiers name params extends implements body span) ≡ tree.class_declaration modifiers.items name (map parameter_view params.items) (type_view_of_option extends) (type_views_of implements.items) (member_views_of body.items) span
 declaration_view-Class modifiers name params extends implements body span = rw (member_views-hidden body)
 
 pub declaration_view-Interface : (modifiers : Vec Modifier Global) (name : Identifier) (params : Vec TypeParam Global) (extends : Vec TyName Global) (body : Vec Member Global) (span : Span) →
-    declaration_view (Decl.Interface modifiers name params extends body span) ≡ tree.interface_declaration modifiers.items name (map parameter_of params.items) (types_of extends.items) (member_views_of body.items) span
+    declaration_view (Decl.Interface modifiers name params extends body span) ≡ tree.interface_declaration modifiers.items name (map parameter_view params.items) (type_views_of extends.items) (member_views_of body.items) span
 declaration_view-Interface modifiers name params extends body span = rw (member_views-hidden body)

@@ -29,14 +29,14 @@ use Rattle.je_ast.specs.declared.decl.ConstructorCall.{ConstructorCall}
 use Rattle.je_ast.specs.declared.decl.Modifier.{Modifier}
 use Rattle.je_ast.specs.declared.decl.TypeParam.{TypeParam}
 use Rattle.je_ast.specs.declared.decl.Formal.{Formal}
-use Rattle.je_ast.specs.Types.{name_of, types_of, type_if, parameter_of, formal_of}
+use Rattle.je_ast.specs.Types.{name_view, type_views_of, type_view_of_option, parameter_view, formal_view}
 use Rattle.je_ast.specs.View.{views_of, view_of_option, statement_views_of, variable_views_of, group_views_of, catch_views_of, member_views_of, block_view_of_option}
-use Rattle.je_ast.specs.Seen.{type_seen, expression_seen, start_seen, statement_seen, first_call_seen, member_seen, declaration_seen}
-use Rattle.je_ast.specs.Renumbering.{renumbered_identifier, renumbered_name, renumbered_type, renumbered_types, renumbered_parameter, renumbered_formal, renumbered_expression, renumbered_expressions, renumbered_expression_if, renumbered_statement, renumbered_statements, renumbered_start, renumbered_variables, renumbered_groups, renumbered_catches, renumbered_member, renumbered_members, renumbered_block_if, renumbered_first_call, renumbered_declaration}
-use Rattle.je_ast.proofs.VariantsSeen.{type_seen-Class, expression_seen-Name, expression_seen-OuterThis, expression_seen-Brackets, expression_seen-Select, expression_seen-SuperSelect, expression_seen-Call, expression_seen-CallOn, expression_seen-SuperCall, expression_seen-Index, expression_seen-New, expression_seen-NewAnonymous, expression_seen-NewArray, expression_seen-NewArrayOf, expression_seen-ArrayInit, expression_seen-Cast, expression_seen-Prefix, expression_seen-Postfix, expression_seen-Binary, expression_seen-InstanceOf, expression_seen-Conditional, expression_seen-Assign, start_seen-Locals, start_seen-Steps, statement_seen-Block, statement_seen-Local, statement_seen-Class, statement_seen-Labelled, statement_seen-If, statement_seen-IfElse, statement_seen-While, statement_seen-Do, statement_seen-For, statement_seen-ForEach, statement_seen-Switch, statement_seen-Break, statement_seen-Continue, statement_seen-Return, statement_seen-Throw, statement_seen-Try, statement_seen-TryFinally, statement_seen-Step, first_call_seen-Explicit, member_seen-Type, member_seen-Field, member_seen-Method, member_seen-Constructor, member_seen-Initializer, declaration_seen-Class, declaration_seen-Interface, declaration_seen-Enum}
+use Rattle.je_ast.specs.Seen.{type_seen, expression_seen, for_initializer_seen, statement_seen, constructor_invocation_seen, member_seen, declaration_seen}
+use Rattle.je_ast.specs.Renumbering.{renumbered_identifier, renumbered_name, renumbered_type, renumbered_types, renumbered_parameter, renumbered_formal, renumbered_expression, renumbered_expressions, renumbered_expression_if, renumbered_statement, renumbered_statements, renumbered_for_initializer, renumbered_variables, renumbered_groups, renumbered_catches, renumbered_member, renumbered_members, renumbered_block_if, renumbered_constructor_invocation, renumbered_declaration}
+use Rattle.je_ast.proofs.VariantsSeen.{type_seen-Class, expression_seen-Name, expression_seen-OuterThis, expression_seen-Parens, expression_seen-Select, expression_seen-SuperSelect, expression_seen-Call, expression_seen-CallOn, expression_seen-SuperCall, expression_seen-Index, expression_seen-New, expression_seen-NewAnonymous, expression_seen-NewArray, expression_seen-NewArrayOf, expression_seen-ArrayInit, expression_seen-Cast, expression_seen-Prefix, expression_seen-Postfix, expression_seen-Binary, expression_seen-InstanceOf, expression_seen-Conditional, expression_seen-Assign, for_initializer_seen-Locals, for_initializer_seen-Steps, statement_seen-Block, statement_seen-Local, statement_seen-Class, statement_seen-Labelled, statement_seen-If, statement_seen-IfElse, statement_seen-While, statement_seen-Do, statement_seen-For, statement_seen-ForEach, statement_seen-Switch, statement_seen-Break, statement_seen-Continue, statement_seen-Return, statement_seen-Throw, statement_seen-Try, statement_seen-TryFinally, statement_seen-ExpressionStatement, constructor_invocation_seen-Explicit, member_seen-Type, member_seen-Field, member_seen-Method, member_seen-Constructor, member_seen-Initializer, declaration_seen-Class, declaration_seen-Interface, declaration_seen-Enum}
 
 pub renumbered_type-Class : (to : List NameId) (n n' : Name) (args : Vec TyName Global) (args' : List TyName) (dims : ℕ) (s : Span) →
-    name_of n' ≡ renumbered_name to (name_of n) → length args' ≡ args.len → types_of args' ≡ renumbered_types to (types_of args.items) →
+    name_view n' ≡ renumbered_name to (name_view n) → length args' ≡ args.len → type_views_of args' ≡ renumbered_types to (type_views_of args.items) →
     type_seen (TyName.Class n' (with_items args args') dims s) ≡ renumbered_type to (type_seen (TyName.Class n args dims s))
 renumbered_type-Class to n n' args args' dims s qn kargs qargs = rw (type_seen-Class n' (with_items args args') dims s, type_seen-Class n args dims s, qn, with_items_is args args' kargs, qargs)
 
@@ -46,14 +46,14 @@ pub renumbered_expression-Name : (to : List NameId) (n n' : Identifier) →
 renumbered_expression-Name to n n' qn = rw (expression_seen-Name n', expression_seen-Name n, qn)
 
 pub renumbered_expression-OuterThis : (to : List NameId) (n n' : Name) (t s : Span) →
-    name_of n' ≡ renumbered_name to (name_of n) →
+    name_view n' ≡ renumbered_name to (name_view n) →
     expression_seen (Expr.OuterThis n' t s) ≡ renumbered_expression to (expression_seen (Expr.OuterThis n t s))
 renumbered_expression-OuterThis to n n' t s qn = rw (expression_seen-OuterThis n' t s, expression_seen-OuterThis n t s, qn)
 
-pub renumbered_expression-Brackets : (to : List NameId) (e : Box Expr Global) (e' : Expr) (s : Span) →
+pub renumbered_expression-Parens : (to : List NameId) (e : Box Expr Global) (e' : Expr) (s : Span) →
     expression_seen e' ≡ renumbered_expression to (expression_seen e.value) →
-    expression_seen (Expr.Brackets (record { ptr = e.ptr; alloc = e.alloc; value = e' }) s) ≡ renumbered_expression to (expression_seen (Expr.Brackets e s))
-renumbered_expression-Brackets to e e' s qe = rw (expression_seen-Brackets (record { ptr = e.ptr; alloc = e.alloc; value = e' }) s, expression_seen-Brackets e s, qe)
+    expression_seen (Expr.Parens (record { ptr = e.ptr; alloc = e.alloc; value = e' }) s) ≡ renumbered_expression to (expression_seen (Expr.Parens e s))
+renumbered_expression-Parens to e e' s qe = rw (expression_seen-Parens (record { ptr = e.ptr; alloc = e.alloc; value = e' }) s, expression_seen-Parens e s, qe)
 
 pub renumbered_expression-Select : (to : List NameId) (e : Box Expr Global) (e' : Expr) (n n' : Identifier) (s : Span) →
     expression_seen e' ≡ renumbered_expression to (expression_seen e.value) → n' ≡ renumbered_identifier to n →
@@ -145,15 +145,15 @@ pub renumbered_expression-Assign : (to : List NameId) (op : Option BinaryOp) (a 
     expression_seen (Expr.Assign op a (record { ptr = l.ptr; alloc = l.alloc; value = l' }) (record { ptr = r.ptr; alloc = r.alloc; value = r' }) s) ≡ renumbered_expression to (expression_seen (Expr.Assign op a l r s))
 renumbered_expression-Assign to op a l l' r r' s ql qr = rw (expression_seen-Assign op a (record { ptr = l.ptr; alloc = l.alloc; value = l' }) (record { ptr = r.ptr; alloc = r.alloc; value = r' }) s, expression_seen-Assign op a l r s, ql, qr)
 
-pub renumbered_start-Locals : (to : List NameId) (m : Bool) (t t' : TyName) (vs : Vec Var Global) (vs' : List Var) →
+pub renumbered_for_initializer-Locals : (to : List NameId) (m : Bool) (t t' : TyName) (vs : Vec Var Global) (vs' : List Var) →
     type_seen t' ≡ renumbered_type to (type_seen t) → length vs' ≡ vs.len → variable_views_of vs' ≡ renumbered_variables to (variable_views_of vs.items) →
-    start_seen (ForInit.Locals m t' (with_items vs vs')) ≡ renumbered_start to (start_seen (ForInit.Locals m t vs))
-renumbered_start-Locals to m t t' vs vs' qt kvs qvs = rw (start_seen-Locals m t' (with_items vs vs'), start_seen-Locals m t vs, qt, with_items_is vs vs' kvs, qvs)
+    for_initializer_seen (ForInit.Locals m t' (with_items vs vs')) ≡ renumbered_for_initializer to (for_initializer_seen (ForInit.Locals m t vs))
+renumbered_for_initializer-Locals to m t t' vs vs' qt kvs qvs = rw (for_initializer_seen-Locals m t' (with_items vs vs'), for_initializer_seen-Locals m t vs, qt, with_items_is vs vs' kvs, qvs)
 
-pub renumbered_start-Steps : (to : List NameId) (es : Vec Expr Global) (es' : List Expr) →
+pub renumbered_for_initializer-Steps : (to : List NameId) (es : Vec Expr Global) (es' : List Expr) →
     length es' ≡ es.len → views_of es' ≡ renumbered_expressions to (views_of es.items) →
-    start_seen (ForInit.Steps (with_items es es')) ≡ renumbered_start to (start_seen (ForInit.Steps es))
-renumbered_start-Steps to es es' kes qes = rw (start_seen-Steps (with_items es es'), start_seen-Steps es, with_items_is es es' kes, qes)
+    for_initializer_seen (ForInit.Steps (with_items es es')) ≡ renumbered_for_initializer to (for_initializer_seen (ForInit.Steps es))
+renumbered_for_initializer-Steps to es es' kes qes = rw (for_initializer_seen-Steps (with_items es es'), for_initializer_seen-Steps es, with_items_is es es' kes, qes)
 
 pub renumbered_statement-Block : (to : List NameId) (b : Block) (b' : List Stmt) →
     length b' ≡ b.stmts.len → statement_views_of b' ≡ renumbered_statements to (statement_views_of b.stmts.items) →
@@ -196,7 +196,7 @@ pub renumbered_statement-Do : (to : List NameId) (f : Span) (b : Box Stmt Global
 renumbered_statement-Do to f b b' c c' s qb qc = rw (statement_seen-Do f (record { ptr = b.ptr; alloc = b.alloc; value = b' }) c' s, statement_seen-Do f b c s, qb, qc)
 
 pub renumbered_statement-For : (to : List NameId) (f : Span) (i i' : ForInit) (c c' : Option Expr) (es : Vec Expr Global) (es' : List Expr) (b : Box Stmt Global) (b' : Stmt) (s : Span) →
-    start_seen i' ≡ renumbered_start to (start_seen i) → view_of_option c' ≡ renumbered_expression_if to (view_of_option c) → length es' ≡ es.len → views_of es' ≡ renumbered_expressions to (views_of es.items) → statement_seen b' ≡ renumbered_statement to (statement_seen b.value) →
+    for_initializer_seen i' ≡ renumbered_for_initializer to (for_initializer_seen i) → view_of_option c' ≡ renumbered_expression_if to (view_of_option c) → length es' ≡ es.len → views_of es' ≡ renumbered_expressions to (views_of es.items) → statement_seen b' ≡ renumbered_statement to (statement_seen b.value) →
     statement_seen (Stmt.For f i' c' (with_items es es') (record { ptr = b.ptr; alloc = b.alloc; value = b' }) s) ≡ renumbered_statement to (statement_seen (Stmt.For f i c es b s))
 renumbered_statement-For to f i i' c c' es es' b b' s qi qc kes qes qb = rw (statement_seen-For f i' c' (with_items es es') (record { ptr = b.ptr; alloc = b.alloc; value = b' }) s, statement_seen-For f i c es b s, qi, qc, with_items_is es es' kes, qes, qb)
 
@@ -240,15 +240,15 @@ pub renumbered_statement-TryFinally : (to : List NameId) (f : Span) (b : Block) 
     statement_seen (Stmt.TryFinally f (record { opening = b.opening; stmts = with_items b.stmts b'; closing = b.closing }) (with_items cs cs') w (record { opening = l.opening; stmts = with_items l.stmts l'; closing = l.closing }) s) ≡ renumbered_statement to (statement_seen (Stmt.TryFinally f b cs w l s))
 renumbered_statement-TryFinally to f b b' cs cs' w l l' s kb qb kcs qcs kl ql = rw (statement_seen-TryFinally f (record { opening = b.opening; stmts = with_items b.stmts b'; closing = b.closing }) (with_items cs cs') w (record { opening = l.opening; stmts = with_items l.stmts l'; closing = l.closing }) s, statement_seen-TryFinally f b cs w l s, with_items_is b.stmts b' kb, qb, with_items_is cs cs' kcs, qcs, with_items_is l.stmts l' kl, ql)
 
-pub renumbered_statement-Step : (to : List NameId) (f : Span) (e e' : Expr) (s : Span) →
+pub renumbered_statement-ExpressionStatement : (to : List NameId) (f : Span) (e e' : Expr) (s : Span) →
     expression_seen e' ≡ renumbered_expression to (expression_seen e) →
-    statement_seen (Stmt.Step f e' s) ≡ renumbered_statement to (statement_seen (Stmt.Step f e s))
-renumbered_statement-Step to f e e' s qe = rw (statement_seen-Step f e' s, statement_seen-Step f e s, qe)
+    statement_seen (Stmt.ExpressionStatement f e' s) ≡ renumbered_statement to (statement_seen (Stmt.ExpressionStatement f e s))
+renumbered_statement-ExpressionStatement to f e e' s qe = rw (statement_seen-ExpressionStatement f e' s, statement_seen-ExpressionStatement f e s, qe)
 
-pub renumbered_first_call-Explicit : (to : List NameId) (m : Bool) (w : Span) (es : Vec Expr Global) (es' : List Expr) →
+pub renumbered_constructor_invocation-Explicit : (to : List NameId) (m : Bool) (w : Span) (es : Vec Expr Global) (es' : List Expr) →
     length es' ≡ es.len → views_of es' ≡ renumbered_expressions to (views_of es.items) →
-    first_call_seen (ConstructorCall.Explicit m w (with_items es es')) ≡ renumbered_first_call to (first_call_seen (ConstructorCall.Explicit m w es))
-renumbered_first_call-Explicit to m w es es' kes qes = rw (first_call_seen-Explicit m w (with_items es es'), first_call_seen-Explicit m w es, with_items_is es es' kes, qes)
+    constructor_invocation_seen (ConstructorCall.Explicit m w (with_items es es')) ≡ renumbered_constructor_invocation to (constructor_invocation_seen (ConstructorCall.Explicit m w es))
+renumbered_constructor_invocation-Explicit to m w es es' kes qes = rw (constructor_invocation_seen-Explicit m w (with_items es es'), constructor_invocation_seen-Explicit m w es, with_items_is es es' kes, qes)
 
 pub renumbered_member-Type : (to : List NameId) (d d' : Decl) →
     declaration_seen d' ≡ renumbered_declaration to (declaration_seen d) →
@@ -261,12 +261,12 @@ pub renumbered_member-Field : (to : List NameId) (ms : Vec Modifier Global) (t t
 renumbered_member-Field to ms t t' vs vs' s qt kvs qvs = rw (member_seen-Field ms t' (with_items vs vs') s, member_seen-Field ms t vs s, qt, with_items_is vs vs' kvs, qvs)
 
 pub renumbered_member-Method : (to : List NameId) (ms : Vec Modifier Global) (t t' : Option TyName) (n n' : Identifier) (fs : Vec Formal Global) (fs' : List Formal) (ts : Vec Name Global) (ts' : List Name) (b b' : Option Block) (s : Span) →
-    type_if t' ≡ option_map (renumbered_type to) (type_if t) → n' ≡ renumbered_identifier to n → length fs' ≡ fs.len → map formal_of fs' ≡ map (renumbered_formal to) (map formal_of fs.items) → length ts' ≡ ts.len → map name_of ts' ≡ map (renumbered_name to) (map name_of ts.items) → block_view_of_option b' ≡ renumbered_block_if to (block_view_of_option b) →
+    type_view_of_option t' ≡ option_map (renumbered_type to) (type_view_of_option t) → n' ≡ renumbered_identifier to n → length fs' ≡ fs.len → map formal_view fs' ≡ map (renumbered_formal to) (map formal_view fs.items) → length ts' ≡ ts.len → map name_view ts' ≡ map (renumbered_name to) (map name_view ts.items) → block_view_of_option b' ≡ renumbered_block_if to (block_view_of_option b) →
     member_seen (MemberNode.Method ms t' n' (with_items fs fs') (with_items ts ts') b' s) ≡ renumbered_member to (member_seen (MemberNode.Method ms t n fs ts b s))
 renumbered_member-Method to ms t t' n n' fs fs' ts ts' b b' s qt qn kfs qfs kts qts qb = rw (member_seen-Method ms t' n' (with_items fs fs') (with_items ts ts') b' s, member_seen-Method ms t n fs ts b s, qt, qn, with_items_is fs fs' kfs, qfs, with_items_is ts ts' kts, qts, qb)
 
 pub renumbered_member-Constructor : (to : List NameId) (ms : Vec Modifier Global) (n n' : Identifier) (fs : Vec Formal Global) (fs' : List Formal) (ts : Vec Name Global) (ts' : List Name) (f f' : ConstructorCall) (b : Block) (b' : List Stmt) (s : Span) →
-    n' ≡ renumbered_identifier to n → length fs' ≡ fs.len → map formal_of fs' ≡ map (renumbered_formal to) (map formal_of fs.items) → length ts' ≡ ts.len → map name_of ts' ≡ map (renumbered_name to) (map name_of ts.items) → first_call_seen f' ≡ renumbered_first_call to (first_call_seen f) → length b' ≡ b.stmts.len → statement_views_of b' ≡ renumbered_statements to (statement_views_of b.stmts.items) →
+    n' ≡ renumbered_identifier to n → length fs' ≡ fs.len → map formal_view fs' ≡ map (renumbered_formal to) (map formal_view fs.items) → length ts' ≡ ts.len → map name_view ts' ≡ map (renumbered_name to) (map name_view ts.items) → constructor_invocation_seen f' ≡ renumbered_constructor_invocation to (constructor_invocation_seen f) → length b' ≡ b.stmts.len → statement_views_of b' ≡ renumbered_statements to (statement_views_of b.stmts.items) →
     member_seen (MemberNode.Constructor ms n' (with_items fs fs') (with_items ts ts') f' (record { opening = b.opening; stmts = with_items b.stmts b'; closing = b.closing }) s) ≡ renumbered_member to (member_seen (MemberNode.Constructor ms n fs ts f b s))
 renumbered_member-Constructor to ms n n' fs fs' ts ts' f f' b b' s qn kfs qfs kts qts qf kb qb = rw (member_seen-Constructor ms n' (with_items fs fs') (with_items ts ts') f' (record { opening = b.opening; stmts = with_items b.stmts b'; closing = b.closing }) s, member_seen-Constructor ms n fs ts f b s, qn, with_items_is fs fs' kfs, qfs, with_items_is ts ts' kts, qts, qf, with_items_is b.stmts b' kb, qb)
 
@@ -276,12 +276,12 @@ pub renumbered_member-Initializer : (to : List NameId) (m : Option Span) (b : Bl
 renumbered_member-Initializer to m b b' s kb qb = rw (member_seen-Initializer m (record { opening = b.opening; stmts = with_items b.stmts b'; closing = b.closing }) s, member_seen-Initializer m b s, with_items_is b.stmts b' kb, qb)
 
 pub renumbered_declaration-Class : (to : List NameId) (ms : Vec Modifier Global) (n n' : Identifier) (ps : Vec TypeParam Global) (ps' : List TypeParam) (e e' : Option TyName) (is : Vec TyName Global) (is' : List TyName) (body : Vec MemberNode.Member Global) (body' : List MemberNode.Member) (s : Span) →
-    n' ≡ renumbered_identifier to n → length ps' ≡ ps.len → map parameter_of ps' ≡ map (renumbered_parameter to) (map parameter_of ps.items) → type_if e' ≡ option_map (renumbered_type to) (type_if e) → length is' ≡ is.len → types_of is' ≡ renumbered_types to (types_of is.items) → length body' ≡ body.len → member_views_of body' ≡ renumbered_members to (member_views_of body.items) →
+    n' ≡ renumbered_identifier to n → length ps' ≡ ps.len → map parameter_view ps' ≡ map (renumbered_parameter to) (map parameter_view ps.items) → type_view_of_option e' ≡ option_map (renumbered_type to) (type_view_of_option e) → length is' ≡ is.len → type_views_of is' ≡ renumbered_types to (type_views_of is.items) → length body' ≡ body.len → member_views_of body' ≡ renumbered_members to (member_views_of body.items) →
     declaration_seen (Decl.Class ms n' (with_items ps ps') e' (with_items is is') (with_items body body') s) ≡ renumbered_declaration to (declaration_seen (Decl.Class ms n ps e is body s))
 renumbered_declaration-Class to ms n n' ps ps' e e' is is' body body' s qn kps qps qe kis qis kbody qbody = rw (declaration_seen-Class ms n' (with_items ps ps') e' (with_items is is') (with_items body body') s, declaration_seen-Class ms n ps e is body s, qn, with_items_is ps ps' kps, qps, qe, with_items_is is is' kis, qis, with_items_is body body' kbody, qbody)
 
 pub renumbered_declaration-Interface : (to : List NameId) (ms : Vec Modifier Global) (n n' : Identifier) (ps : Vec TypeParam Global) (ps' : List TypeParam) (es : Vec TyName Global) (es' : List TyName) (body : Vec MemberNode.Member Global) (body' : List MemberNode.Member) (s : Span) →
-    n' ≡ renumbered_identifier to n → length ps' ≡ ps.len → map parameter_of ps' ≡ map (renumbered_parameter to) (map parameter_of ps.items) → length es' ≡ es.len → types_of es' ≡ renumbered_types to (types_of es.items) → length body' ≡ body.len → member_views_of body' ≡ renumbered_members to (member_views_of body.items) →
+    n' ≡ renumbered_identifier to n → length ps' ≡ ps.len → map parameter_view ps' ≡ map (renumbered_parameter to) (map parameter_view ps.items) → length es' ≡ es.len → type_views_of es' ≡ renumbered_types to (type_views_of es.items) → length body' ≡ body.len → member_views_of body' ≡ renumbered_members to (member_views_of body.items) →
     declaration_seen (Decl.Interface ms n' (with_items ps ps') (with_items es es') (with_items body body') s) ≡ renumbered_declaration to (declaration_seen (Decl.Interface ms n ps es body s))
 renumbered_declaration-Interface to ms n n' ps ps' es es' body body' s qn kps qps kes qes kbody qbody = rw (declaration_seen-Interface ms n' (with_items ps ps') (with_items es es') (with_items body body') s, declaration_seen-Interface ms n ps es body s, qn, with_items_is ps ps' kps, qps, with_items_is es es' kes, qes, with_items_is body body' kbody, qbody)
 

@@ -13,58 +13,58 @@ pub record QualifiedName : Type 0 where
   pub parts : List Identifier
   pub span : Span
 
-abbrev pub name_of : Name → QualifiedName
-name_of n = record { parts = n.parts.items; span = n.span }
+abbrev pub name_view : Name → QualifiedName
+name_view n = record { parts = n.parts.items; span = n.span }
 
 -- a type, the number of bracket pairs behind it, and its span
 mutual
-  pub data Written : Type 0 where
-    primitive : Primitive → ℕ → Span → Written
-    class_type : QualifiedName → Writtens → ℕ → Span → Written
+  pub data TypeName : Type 0 where
+    primitive : Primitive → ℕ → Span → TypeName
+    class_type : QualifiedName → TypeNames → ℕ → Span → TypeName
 
-  pub data Writtens : Type 0 where
-    no_types : Writtens
-    more_types : Written → Writtens → Writtens
+  pub data TypeNames : Type 0 where
+    no_types : TypeNames
+    more_types : TypeName → TypeNames → TypeNames
 
 abbrev mutual
-  pub type_of : TyName → Written
-  type_of (PrimitiveName p dims s) = primitive p dims s
-  type_of (Class' n shape all dims s) = class_type (name_of n) (types_in all) dims s
+  pub type_view : TyName → TypeName
+  type_view (PrimitiveName p dims s) = primitive p dims s
+  type_view (Class' n shape all dims s) = class_type (name_view n) (type_views all) dims s
 
-  pub types_in : {m : _} → Row_of-TyName m → Writtens
-  types_in end_of-TyName = no_types
-  types_in (more_of-TyName t rest) = more_types (type_of t) (types_in rest)
+  pub type_views : {m : _} → Row_of-TyName m → TypeNames
+  type_views end_of-TyName = no_types
+  type_views (more_of-TyName t rest) = more_types (type_view t) (type_views rest)
 
-abbrev pub types_of : List TyName → Writtens
-types_of [] = no_types
-types_of (t ∷ ts) = more_types (type_of t) (types_of ts)
+abbrev pub type_views_of : List TyName → TypeNames
+type_views_of [] = no_types
+type_views_of (t ∷ ts) = more_types (type_view t) (type_views_of ts)
 
-abbrev pub type_if : Option TyName → Option Written
-type_if None = None
-type_if (Some t) = Some (type_of t)
+abbrev pub type_view_of_option : Option TyName → Option TypeName
+type_view_of_option None = None
+type_view_of_option (Some t) = Some (type_view t)
 
 pub record TypeParameter : Type 0 where
   pub name : Identifier
-  pub bound : Option Written
+  pub bound : Option TypeName
 
-abbrev pub parameter_of : TypeParam → TypeParameter
-parameter_of p = record { name = p.name; bound = type_if p.bound }
+abbrev pub parameter_view : TypeParam → TypeParameter
+parameter_view p = record { name = p.name; bound = type_view_of_option p.bound }
 
 pub record FormalParameter : Type 0 where
   pub is_final : Bool
-  pub declared : Written
+  pub declared : TypeName
   pub name : Identifier
   pub dims : ℕ
 
-abbrev pub formal_of : Formal → FormalParameter
-formal_of f = record { is_final = f.is_final; declared = type_of f.ty; name = f.name; dims = f.dims }
+abbrev pub formal_view : Formal → FormalParameter
+formal_view f = record { is_final = f.is_final; declared = type_view f.ty; name = f.name; dims = f.dims }
 
 -- each written type is one node, with its arguments below it
 abbrev mutual
-  pub type_height : Written → ℕ
+  pub type_height : TypeName → ℕ
   type_height (primitive p dims s) = 1
   type_height (class_type n args dims s) = suc (types_height args)
 
-  pub types_height : Writtens → ℕ
+  pub types_height : TypeNames → ℕ
   types_height no_types = 0
   types_height (more_types t ts) = max (type_height t) (types_height ts)

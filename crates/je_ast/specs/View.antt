@@ -15,8 +15,8 @@ use Rattle.je_ast.specs.declared.decl.Decl
 use Rattle.je_ast.specs.declared.decl.Decl.{Decl}
 use Rattle.je_ast.specs.declared.decl.ConstructorCall.{ConstructorCall}
 use Rattle.je_ast.specs.declared.decl.Unit.{Unit}
-use Rattle.je_ast.specs.Types.{name_of, type_of, types_of, type_if, parameter_of, formal_of}
-use Rattle.je_ast.specs.Trees.{Expression, Expressions, MaybeExpression, Statement, Statements, ForStart, Variables, Groups, Labels, Catches, Member, Members, MaybeBlock, FirstCall, Declaration, CompilationUnit}
+use Rattle.je_ast.specs.Types.{name_view, type_view, type_views_of, type_view_of_option, parameter_view, formal_view}
+use Rattle.je_ast.specs.Trees.{Expression, Expressions, MaybeExpression, Statement, Statements, ForInitializer, Variables, Groups, Labels, Catches, Member, Members, MaybeBlock, ConstructorInvocation, Declaration, CompilationUnit}
 use Rattle.je_ast.specs.Trees as tree
 
 abbrev mutual
@@ -24,24 +24,24 @@ abbrev mutual
   view (Expr.Literal l s) = tree.literal l s
   view (Expr.Name n) = tree.name n
   view (Expr.This s) = tree.this s
-  view (Expr.OuterThis n t s) = tree.outer_this (name_of n) t s
-  view (Expr.Brackets' p e s) = tree.brackets (view e) s
+  view (Expr.OuterThis n t s) = tree.outer_this (name_view n) t s
+  view (Expr.Parens' p e s) = tree.parens (view e) s
   view (Expr.Select' p e n s) = tree.select (view e) n s
   view (Expr.SuperSelect w n s) = tree.super_select w n s
   view (Expr.Call' n sh es s) = tree.call n (views es) s
   view (Expr.CallOn' p e n sh es s) = tree.call_on (view e) n (views es) s
   view (Expr.SuperCall' w n sh es s) = tree.super_call w n (views es) s
   view (Expr.Index' p a q i s) = tree.index (view a) (view i) s
-  view (Expr.New' w t sh es s) = tree.new_object w (type_of t) (views es) s
-  view (Expr.NewAnonymous' w t sh es sm ms s) = tree.new_anonymous w (type_of t) (views es) (member_views ms) s
-  view (Expr.NewArray' t sh es dims s) = tree.new_array (type_of t) (views es) dims s
-  view (Expr.NewArrayOf' t dims p e s) = tree.new_array_of (type_of t) dims (view e) s
+  view (Expr.New' w t sh es s) = tree.new_object w (type_view t) (views es) s
+  view (Expr.NewAnonymous' w t sh es sm ms s) = tree.new_anonymous w (type_view t) (views es) (member_views ms) s
+  view (Expr.NewArray' t sh es dims s) = tree.new_array (type_view t) (views es) dims s
+  view (Expr.NewArrayOf' t dims p e s) = tree.new_array_of (type_view t) dims (view e) s
   view (Expr.ArrayInit' sh es s) = tree.array_init (views es) s
-  view (Expr.Cast' t p e s) = tree.cast (type_of t) (view e) s
+  view (Expr.Cast' t p e s) = tree.cast (type_view t) (view e) s
   view (Expr.Prefix' op a p e s) = tree.prefix op a (view e) s
   view (Expr.Postfix' op a p e s) = tree.postfix op a (view e) s
   view (Expr.Binary' op a p l q r s) = tree.binary op a (view l) (view r) s
-  view (Expr.InstanceOf' a p e t s) = tree.instance_of a (view e) (type_of t) s
+  view (Expr.InstanceOf' a p e t s) = tree.instance_of a (view e) (type_view t) s
   view (Expr.Conditional' a p c q x r y s) = tree.conditional a (view c) (view x) (view y) s
   view (Expr.Assign' op a p l q r s) = tree.assign op a (view l) (view r) s
 
@@ -55,7 +55,7 @@ abbrev mutual
 
   pub statement_view : Stmt → Statement
   statement_view (Stmt.Block' o sh b c) = tree.block o (statement_views b) c
-  statement_view (Stmt.Local' f m t sh vs s) = tree.local f m (type_of t) (variable_views vs) s
+  statement_view (Stmt.Local' f m t sh vs s) = tree.local f m (type_view t) (variable_views vs) s
   statement_view (Stmt.Class d) = tree.local_class (declaration_view d)
   statement_view (Stmt.Empty s) = tree.empty s
   statement_view (Stmt.Labelled' n p b s) = tree.labelled n (statement_view b) s
@@ -63,8 +63,8 @@ abbrev mutual
   statement_view (Stmt.IfElse' f c p x q y s) = tree.if_else f (view c) (statement_view x) (statement_view y) s
   statement_view (Stmt.While' f c p b s) = tree.while f (view c) (statement_view b) s
   statement_view (Stmt.Do' f p b c s) = tree.do_while f (statement_view b) (view c) s
-  statement_view (Stmt.For' f i c sh es p b s) = tree.for f (start_view i) (view_if c) (views es) (statement_view b) s
-  statement_view (Stmt.ForEach' f m t n e p b s) = tree.for_each f m (type_of t) n (view e) (statement_view b) s
+  statement_view (Stmt.For' f i c sh es p b s) = tree.for f (for_initializer_view i) (view_if c) (views es) (statement_view b) s
+  statement_view (Stmt.ForEach' f m t n e p b s) = tree.for_each f m (type_view t) n (view e) (statement_view b) s
   statement_view (Stmt.Switch' f e sh gs s) = tree.switch f (view e) (group_views gs) s
   statement_view (Stmt.Break f n s) = tree.break f n s
   statement_view (Stmt.Continue f n s) = tree.continue f n s
@@ -72,15 +72,15 @@ abbrev mutual
   statement_view (Stmt.Throw f e s) = tree.throw f (view e) s
   statement_view (Stmt.Try' f o sh b c sc cs s) = tree.try f o (statement_views b) c (catch_views cs) s
   statement_view (Stmt.TryFinally' f o sh b c sc cs w p sl l q s) = tree.try_finally f o (statement_views b) c (catch_views cs) w p (statement_views l) q s
-  statement_view (Stmt.Step f e s) = tree.step f (view e) s
+  statement_view (Stmt.ExpressionStatement f e s) = tree.expression_statement f (view e) s
 
   pub statement_views : {m : _} → Stmt.Row_of-Stmt m → Statements
   statement_views Stmt.end_of-Stmt = tree.no_statements
   statement_views (Stmt.more_of-Stmt b bs) = tree.more_statements (statement_view b) (statement_views bs)
 
-  pub start_view : ForInit → ForStart
-  start_view (ForInit.Locals' m t sh vs) = tree.locals m (type_of t) (variable_views vs)
-  start_view (ForInit.Steps' sh es) = tree.steps (views es)
+  pub for_initializer_view : ForInit → ForInitializer
+  for_initializer_view (ForInit.Locals' m t sh vs) = tree.locals m (type_view t) (variable_views vs)
+  for_initializer_view (ForInit.Steps' sh es) = tree.steps (views es)
 
   pub variable_views : {m : _} → Stmt.Row_of-Var m → Variables
   variable_views Stmt.end_of-Var = tree.no_variables
@@ -97,13 +97,13 @@ abbrev mutual
 
   pub catch_views : {m : _} → Stmt.Row_of-Catch m → Catches
   catch_views Stmt.end_of-Catch = tree.no_catches
-  catch_views (Stmt.more_of-Catch m t n o sh b c cs) = tree.more_catches m (name_of t) n o (statement_views b) c (catch_views cs)
+  catch_views (Stmt.more_of-Catch m t n o sh b c cs) = tree.more_catches m (name_view t) n o (statement_views b) c (catch_views cs)
 
   pub member_view : MemberNode.Member → Member
   member_view (MemberNode.«Type» d) = tree.member_type (declaration_view d)
-  member_view (MemberNode.Field' ms t sh vs s) = tree.field ms.items (type_of t) (variable_views vs) s
-  member_view (MemberNode.Method' ms t n fs ts b s) = tree.method ms.items (type_if t) n (map formal_of fs.items) (map name_of ts.items) (block_view_if b) s
-  member_view (MemberNode.Constructor' ms n fs ts f o sh b c s) = tree.constructor ms.items n (map formal_of fs.items) (map name_of ts.items) (first_call_view f) o (statement_views b) c s
+  member_view (MemberNode.Field' ms t sh vs s) = tree.field ms.items (type_view t) (variable_views vs) s
+  member_view (MemberNode.Method' ms t n fs ts b s) = tree.method ms.items (type_view_of_option t) n (map formal_view fs.items) (map name_view ts.items) (block_view_if b) s
+  member_view (MemberNode.Constructor' ms n fs ts f o sh b c s) = tree.constructor ms.items n (map formal_view fs.items) (map name_view ts.items) (constructor_invocation_view f) o (statement_views b) c s
   member_view (MemberNode.Initializer' m o sh b c s) = tree.initializer m o (statement_views b) c s
 
   pub member_views : {m : _} → Expr.Row_of-Member m → Members
@@ -114,13 +114,13 @@ abbrev mutual
   block_view_if MemberNode.Member-Method-5-None' = tree.no_block
   block_view_if (MemberNode.Member-Method-5-Some' o sh b c) = tree.a_block o (statement_views b) c
 
-  pub first_call_view : ConstructorCall → FirstCall
-  first_call_view ConstructorCall.Implicit = tree.implicit
-  first_call_view (ConstructorCall.Explicit' m w sh es) = tree.explicit m w (views es)
+  pub constructor_invocation_view : ConstructorCall → ConstructorInvocation
+  constructor_invocation_view ConstructorCall.Implicit = tree.implicit
+  constructor_invocation_view (ConstructorCall.Explicit' m w sh es) = tree.explicit m w (views es)
 
   pub declaration_view : Decl → Declaration
-  declaration_view (Decl.Class' ms n ps e is sh body s) = tree.class_declaration ms.items n (map parameter_of ps.items) (type_if e) (types_of is.items) (member_views body) s
-  declaration_view (Decl.Interface' ms n ps es sh body s) = tree.interface_declaration ms.items n (map parameter_of ps.items) (types_of es.items) (member_views body) s
+  declaration_view (Decl.Class' ms n ps e is sh body s) = tree.class_declaration ms.items n (map parameter_view ps.items) (type_view_of_option e) (type_views_of is.items) (member_views body) s
+  declaration_view (Decl.Interface' ms n ps es sh body s) = tree.interface_declaration ms.items n (map parameter_view ps.items) (type_views_of es.items) (member_views body) s
   declaration_view (Decl.Enum ms n cs s) = tree.enum_declaration ms.items n cs.items s
 
 -- lists in memory
@@ -151,7 +151,7 @@ group_views_of (g ∷ gs) = tree.more_groups (label_views_of g.labels.items) (st
 
 abbrev pub catch_views_of : List Catch → Catches
 catch_views_of [] = tree.no_catches
-catch_views_of (c ∷ cs) = tree.more_catches c.is_final (name_of c.class) c.name c.block.opening (statement_views_of c.block.stmts.items) c.block.closing (catch_views_of cs)
+catch_views_of (c ∷ cs) = tree.more_catches c.is_final (name_view c.class) c.name c.block.opening (statement_views_of c.block.stmts.items) c.block.closing (catch_views_of cs)
 
 abbrev pub member_views_of : List MemberNode.Member → Members
 member_views_of [] = tree.no_members
@@ -162,4 +162,4 @@ block_view_of_option None = tree.no_block
 block_view_of_option (Some b) = tree.a_block b.opening (statement_views_of b.stmts.items) b.closing
 
 abbrev pub unit_view : Unit → CompilationUnit
-unit_view u = record { imports = map name_of u.imports.items; declarations = map declaration_view u.decls.items }
+unit_view u = record { imports = map name_view u.imports.items; declarations = map declaration_view u.decls.items }

@@ -1,10 +1,10 @@
 // How high a tree is. The walks stop counting at the greatest u32, so that they ask nothing of the tree.
 
 ghost use Rattle.std.specs.Prelude.{◌≡◌, suc, ◌+◌, ◌<◌, ◌^◌, min, map};
-ghost use Rattle.je_ast.specs.Types.{types_of, type_if, parameter_of, formal_of, type_height as the_type_height, types_height as the_types_height};
+ghost use Rattle.je_ast.specs.Types.{type_views_of, type_view_of_option, parameter_view, formal_view, type_height as the_type_height, types_height as the_types_height};
 ghost use Rattle.je_ast.specs.View.{views_of, view_of_option, variable_views_of, statement_views_of, label_views_of, group_views_of, catch_views_of, member_views_of, declaration_view, unit_view};
-ghost use Rattle.je_ast.specs.Seen.{type_seen, expression_seen, start_seen, statement_seen, first_call_seen, member_seen, declaration_seen};
-ghost use Rattle.je_ast.specs.Height.{type_height_if, parameters_height, formals_height as the_formals_height, height as the_height, heights, height_if, variables_height, start_height, statement_height, statements_height, labels_height as the_labels_height, groups_height as the_groups_height, catches_height as the_catches_height, first_call_height, member_height as the_member_height, members_height as the_members_height, declaration_height, unit_height};
+ghost use Rattle.je_ast.specs.Seen.{type_seen, expression_seen, for_initializer_seen, statement_seen, constructor_invocation_seen, member_seen, declaration_seen};
+ghost use Rattle.je_ast.specs.Height.{type_height_if, parameters_height, formals_height as the_formals_height, height as the_height, heights, height_if, variables_height, for_initializer_height, statement_height, statements_height, labels_height as the_labels_height, groups_height as the_groups_height, catches_height as the_catches_height, constructor_invocation_height, member_height as the_member_height, members_height as the_members_height, declaration_height, unit_height};
 ghost use Rattle.je_ast.specs.Size.{unit_size};
 
 use crate::decl::{ConstructorCall, Decl, Formal, Member, TypeParam, Unit};
@@ -33,7 +33,7 @@ fn type_height(ty: &TyName) -> u32
 #[cycle(types)]
 #[tactic(auto, unfolding(crate::specs::Seen::type_seen))]
 fn types_height(list: &[TyName]) -> u32
-    ensures { result ≡ min (the_types_height (types_of list.now)) u32.MAX }
+    ensures { result ≡ min (the_types_height (type_views_of list.now)) u32.MAX }
 {
     let mut most = 0;
     for ty in list {
@@ -44,7 +44,7 @@ fn types_height(list: &[TyName]) -> u32
 
 #[tactic(auto, unfolding(crate::specs::Seen::type_seen))]
 fn option_type_height(ty: &Option<TyName>) -> u32
-    ensures { result ≡ min (type_height_if (type_if ty.now)) u32.MAX }
+    ensures { result ≡ min (type_height_if (type_view_of_option ty.now)) u32.MAX }
 {
     match ty {
         Some(ty) => type_height(ty),
@@ -53,7 +53,7 @@ fn option_type_height(ty: &Option<TyName>) -> u32
 }
 
 fn params_height(list: &[TypeParam]) -> u32
-    ensures { result ≡ min (parameters_height (map parameter_of list.now)) u32.MAX }
+    ensures { result ≡ min (parameters_height (map parameter_view list.now)) u32.MAX }
 {
     let mut most = 0;
     for param in list {
@@ -64,7 +64,7 @@ fn params_height(list: &[TypeParam]) -> u32
 
 #[tactic(auto, unfolding(crate::specs::Seen::type_seen))]
 fn formals_height(list: &[Formal]) -> u32
-    ensures { result ≡ min (the_formals_height (map formal_of list.now)) u32.MAX }
+    ensures { result ≡ min (the_formals_height (map formal_view list.now)) u32.MAX }
 {
     let mut most = 0;
     for formal in list {
@@ -84,7 +84,7 @@ fn expr_height(expr: &Expr) -> u32
         | Expr::This { .. }
         | Expr::OuterThis { .. }
         | Expr::SuperSelect { .. } => 0,
-        Expr::Brackets { inner, .. } => expr_height(inner),
+        Expr::Parens { inner, .. } => expr_height(inner),
         Expr::Select { object, .. } => expr_height(object),
         Expr::Call { args, .. } | Expr::SuperCall { args, .. } => exprs_height(args),
         Expr::CallOn { object, args, .. } => expr_height(object).max(exprs_height(args)),
@@ -154,9 +154,9 @@ fn vars_height(list: &[Var]) -> u32
 }
 
 #[cycle(height)]
-#[tactic(auto, using(crate::proofs::VariantsSeen::starts_seen))]
+#[tactic(auto, using(crate::proofs::VariantsSeen::for_initializers_seen))]
 fn for_init_height(init: &ForInit) -> u32
-    ensures { result ≡ min (start_height (start_seen init.now)) u32.MAX }
+    ensures { result ≡ min (for_initializer_height (for_initializer_seen init.now)) u32.MAX }
 {
     match init {
         ForInit::Locals { ty, vars, .. } => type_height(ty).max(vars_height(vars)),
@@ -250,7 +250,7 @@ fn stmt_height(stmt: &Stmt) -> u32
             let most = block_height(block).max(catches_height(catches));
             above(most.max(block_height(last)))
         }
-        Stmt::Step { expr, .. } => above(expr_height(expr)),
+        Stmt::ExpressionStatement { expr, .. } => above(expr_height(expr)),
     }
 }
 
@@ -310,9 +310,9 @@ fn catches_height(list: &[Catch]) -> u32
 }
 
 #[cycle(height)]
-#[tactic(auto, using(crate::proofs::VariantsSeen::first_calls_seen))]
+#[tactic(auto, using(crate::proofs::VariantsSeen::constructor_invocations_seen))]
 fn call_height(call: &ConstructorCall) -> u32
-    ensures { result ≡ min (first_call_height (first_call_seen call.now)) u32.MAX }
+    ensures { result ≡ min (constructor_invocation_height (constructor_invocation_seen call.now)) u32.MAX }
 {
     match call {
         ConstructorCall::Implicit => 0,

@@ -1,9 +1,9 @@
 // Trees with lists, seen with their lists of trees: what a parser makes them by.
 
 ghost use Rattle.std.specs.Prelude.{◌≡◌, map};
-ghost use Rattle.je_ast.specs.Types.{class_type, name_of, type_of, types_of, type_if, parameter_of, formal_of};
+ghost use Rattle.je_ast.specs.Types.{class_type, name_view, type_view, type_views_of, type_view_of_option, parameter_view, formal_view};
 ghost use Rattle.je_ast.specs.Trees as tree;
-ghost use Rattle.je_ast.specs.View.{view, views_of, view_of_option, statement_view, statement_views_of, variable_views_of, group_views_of, catch_views_of, start_view, first_call_view, member_view, member_views_of, block_view_of_option, declaration_view};
+ghost use Rattle.je_ast.specs.View.{view, views_of, view_of_option, statement_view, statement_views_of, variable_views_of, group_views_of, catch_views_of, for_initializer_view, constructor_invocation_view, member_view, member_views_of, block_view_of_option, declaration_view};
 
 use crate::decl::{ConstructorCall, Decl, Formal, Member, Modifier, TypeParam};
 use crate::expr::Expr;
@@ -14,7 +14,7 @@ use je_base::Span;
 
 /// A class type.
 pub fn make_class_type(name: Name, args: Vec<TyName>, dims: usize, span: Span) -> TyName
-    ensures { type_of result ≡ class_type (name_of name) (types_of args.items) dims span }
+    ensures { type_view result ≡ class_type (name_view name) (type_views_of args.items) dims span }
 {
     TyName::Class {
         name,
@@ -57,7 +57,7 @@ pub fn make_super_call(word: Span, method: Identifier, args: Vec<Expr>, span: Sp
 
 /// `new A(e, ..)`
 pub fn make_new(word: Span, class: TyName, args: Vec<Expr>, span: Span) -> Expr
-    ensures { view result ≡ tree.new_object word (type_of class) (views_of args.items) span }
+    ensures { view result ≡ tree.new_object word (type_view class) (views_of args.items) span }
 {
     Expr::New {
         word,
@@ -75,7 +75,7 @@ pub fn make_new_anonymous(
     body: Vec<Member>,
     span: Span,
 ) -> Expr
-    ensures { view result ≡ tree.new_anonymous word (type_of class) (views_of args.items) (member_views_of body.items) span }
+    ensures { view result ≡ tree.new_anonymous word (type_view class) (views_of args.items) (member_views_of body.items) span }
 {
     Expr::NewAnonymous {
         word,
@@ -88,7 +88,7 @@ pub fn make_new_anonymous(
 
 /// `new A[e]..[]..`
 pub fn make_new_array(element: TyName, lengths: Vec<Expr>, dims: usize, span: Span) -> Expr
-    ensures { view result ≡ tree.new_array (type_of element) (views_of lengths.items) dims span }
+    ensures { view result ≡ tree.new_array (type_view element) (views_of lengths.items) dims span }
 {
     Expr::NewArray {
         element,
@@ -120,7 +120,7 @@ pub fn make_block(opening: Span, stmts: Vec<Stmt>, closing: Span) -> Stmt
 
 /// Local variables.
 pub fn make_local(first: Span, is_final: bool, ty: TyName, vars: Vec<Var>, span: Span) -> Stmt
-    ensures { statement_view result ≡ tree.local first is_final (type_of ty) (variable_views_of vars.items) span }
+    ensures { statement_view result ≡ tree.local first is_final (type_view ty) (variable_views_of vars.items) span }
 {
     Stmt::Local {
         first,
@@ -140,7 +140,7 @@ pub fn make_for(
     body: Box<Stmt>,
     span: Span,
 ) -> Stmt
-    ensures { statement_view result ≡ tree.for first (start_view init) (view_of_option condition) (views_of steps.items) (statement_view body.value) span }
+    ensures { statement_view result ≡ tree.for first (for_initializer_view init) (view_of_option condition) (views_of steps.items) (statement_view body.value) span }
 {
     Stmt::For {
         first,
@@ -206,21 +206,21 @@ pub fn make_try_finally(
 
 /// What declares local variables at the head of a `for`.
 pub fn make_locals(is_final: bool, ty: TyName, vars: Vec<Var>) -> ForInit
-    ensures { start_view result ≡ tree.locals is_final (type_of ty) (variable_views_of vars.items) }
+    ensures { for_initializer_view result ≡ tree.locals is_final (type_view ty) (variable_views_of vars.items) }
 {
     ForInit::Locals { is_final, ty, vars }
 }
 
 /// Steps at the head of a `for`.
 pub fn make_steps(steps: Vec<Expr>) -> ForInit
-    ensures { start_view result ≡ tree.steps (views_of steps.items) }
+    ensures { for_initializer_view result ≡ tree.steps (views_of steps.items) }
 {
     ForInit::Steps { steps }
 }
 
 /// `this(..);` or `super(..);`
 pub fn make_explicit_call(is_super: bool, word: Span, args: Vec<Expr>) -> ConstructorCall
-    ensures { first_call_view result ≡ tree.explicit is_super word (views_of args.items) }
+    ensures { constructor_invocation_view result ≡ tree.explicit is_super word (views_of args.items) }
 {
     ConstructorCall::Explicit {
         is_super,
@@ -231,7 +231,7 @@ pub fn make_explicit_call(is_super: bool, word: Span, args: Vec<Expr>) -> Constr
 
 /// A field.
 pub fn make_field(modifiers: Vec<Modifier>, ty: TyName, vars: Vec<Var>, span: Span) -> Member
-    ensures { member_view result ≡ tree.field modifiers.items (type_of ty) (variable_views_of vars.items) span }
+    ensures { member_view result ≡ tree.field modifiers.items (type_view ty) (variable_views_of vars.items) span }
 {
     Member::Field {
         modifiers,
@@ -251,7 +251,7 @@ pub fn make_method(
     body: Option<Block>,
     span: Span,
 ) -> Member
-    ensures { member_view result ≡ tree.method modifiers.items (type_if returns) name (map formal_of formals.items) (map name_of throws.items) (block_view_of_option body) span }
+    ensures { member_view result ≡ tree.method modifiers.items (type_view_of_option returns) name (map formal_view formals.items) (map name_view throws.items) (block_view_of_option body) span }
 {
     Member::Method {
         modifiers,
@@ -274,7 +274,7 @@ pub fn make_constructor(
     body: Block,
     span: Span,
 ) -> Member
-    ensures { member_view result ≡ tree.constructor modifiers.items name (map formal_of formals.items) (map name_of throws.items) (first_call_view call) body.opening (statement_views_of body.stmts.items) body.closing span }
+    ensures { member_view result ≡ tree.constructor modifiers.items name (map formal_view formals.items) (map name_view throws.items) (constructor_invocation_view call) body.opening (statement_views_of body.stmts.items) body.closing span }
 {
     Member::Constructor {
         modifiers,
@@ -304,7 +304,7 @@ pub fn make_class(
     body: Vec<Member>,
     span: Span,
 ) -> Decl
-    ensures { declaration_view result ≡ tree.class_declaration modifiers.items name (map parameter_of params.items) (type_if extends) (types_of implements.items) (member_views_of body.items) span }
+    ensures { declaration_view result ≡ tree.class_declaration modifiers.items name (map parameter_view params.items) (type_view_of_option extends) (type_views_of implements.items) (member_views_of body.items) span }
 {
     Decl::Class {
         modifiers,
@@ -326,7 +326,7 @@ pub fn make_interface(
     body: Vec<Member>,
     span: Span,
 ) -> Decl
-    ensures { declaration_view result ≡ tree.interface_declaration modifiers.items name (map parameter_of params.items) (types_of extends.items) (member_views_of body.items) span }
+    ensures { declaration_view result ≡ tree.interface_declaration modifiers.items name (map parameter_view params.items) (type_views_of extends.items) (member_views_of body.items) span }
 {
     Decl::Interface {
         modifiers,

@@ -1,10 +1,10 @@
 // Other numbers for the names of a tree.
 
 ghost use Rattle.std.specs.Prelude.{◌≡◌, [], ◌∷◌, map, option_map};
-ghost use Rattle.je_ast.specs.Types.{name_of, types_of, type_if, parameter_of, formal_of};
+ghost use Rattle.je_ast.specs.Types.{name_view, type_views_of, type_view_of_option, parameter_view, formal_view};
 ghost use Rattle.je_ast.specs.View.{views_of, view_of_option, statement_views_of, variable_views_of, group_views_of, label_views_of, catch_views_of, member_views_of, block_view_of_option, declaration_view, unit_view};
-ghost use Rattle.je_ast.specs.Seen.{type_seen, expression_seen, statement_seen, start_seen, member_seen, first_call_seen, declaration_seen};
-ghost use Rattle.je_ast.specs.Renumbering.{renumbered_identifier, renumbered_name, renumbered_type, renumbered_types, renumbered_parameter, renumbered_formal, renumbered_expression, renumbered_expressions, renumbered_expression_if, renumbered_statement, renumbered_statements, renumbered_start, renumbered_variables, renumbered_groups, renumbered_labels, renumbered_catches, renumbered_member, renumbered_members, renumbered_block_if, renumbered_first_call, renumbered_declaration, renumbered};
+ghost use Rattle.je_ast.specs.Seen.{type_seen, expression_seen, statement_seen, for_initializer_seen, member_seen, constructor_invocation_seen, declaration_seen};
+ghost use Rattle.je_ast.specs.Renumbering.{renumbered_identifier, renumbered_name, renumbered_type, renumbered_types, renumbered_parameter, renumbered_formal, renumbered_expression, renumbered_expressions, renumbered_expression_if, renumbered_statement, renumbered_statements, renumbered_for_initializer, renumbered_variables, renumbered_groups, renumbered_labels, renumbered_catches, renumbered_member, renumbered_members, renumbered_block_if, renumbered_constructor_invocation, renumbered_declaration, renumbered};
 
 use crate::decl::{ConstructorCall, Decl, Formal, Member, TypeParam, Unit};
 use crate::expr::Expr;
@@ -39,14 +39,14 @@ fn renumber_option_identifier(identifier: &mut Option<Identifier>, to: &[NameId]
 }
 
 fn renumber_name(name: &mut Name, to: &[NameId])
-    ensures { name_of name.new ≡ renumbered_name to.now (name_of name.old) }
+    ensures { name_view name.new ≡ renumbered_name to.now (name_view name.old) }
 {
     renumber_identifiers(&mut name.parts, to);
 }
 
 #[tactic(auto, using(crate::proofs::Went::walks))]
 fn renumber_names(list: &mut [Name], to: &[NameId])
-    ensures { map name_of list.new ≡ map (renumbered_name to.now) (map name_of list.old) }
+    ensures { map name_view list.new ≡ map (renumbered_name to.now) (map name_view list.old) }
 {
     for name in list.iter_mut() {
         renumber_name(name, to);
@@ -67,7 +67,7 @@ fn renumber_type(ty: &mut TyName, to: &[NameId])
 #[cycle(types)]
 #[tactic(auto, using(crate::proofs::Went::walks))]
 fn renumber_types(list: &mut [TyName], to: &[NameId])
-    ensures { types_of list.new ≡ renumbered_types to.now (types_of list.old) }
+    ensures { type_views_of list.new ≡ renumbered_types to.now (type_views_of list.old) }
 {
     for ty in list.iter_mut() {
         renumber_type(ty, to);
@@ -76,7 +76,7 @@ fn renumber_types(list: &mut [TyName], to: &[NameId])
 
 #[tactic(auto, unfolding(crate::specs::Seen::type_seen))]
 fn renumber_option_type(ty: &mut Option<TyName>, to: &[NameId])
-    ensures { type_if ty.new ≡ option_map (renumbered_type to.now) (type_if ty.old) }
+    ensures { type_view_of_option ty.new ≡ option_map (renumbered_type to.now) (type_view_of_option ty.old) }
 {
     if let Some(ty) = ty {
         renumber_type(ty, to);
@@ -85,7 +85,7 @@ fn renumber_option_type(ty: &mut Option<TyName>, to: &[NameId])
 
 #[tactic(auto, using(crate::proofs::Went::walks))]
 fn renumber_params(list: &mut [TypeParam], to: &[NameId])
-    ensures { map parameter_of list.new ≡ map (renumbered_parameter to.now) (map parameter_of list.old) }
+    ensures { map parameter_view list.new ≡ map (renumbered_parameter to.now) (map parameter_view list.old) }
 {
     for param in list.iter_mut() {
         renumber_identifier(&mut param.name, to);
@@ -95,7 +95,7 @@ fn renumber_params(list: &mut [TypeParam], to: &[NameId])
 
 #[tactic(auto, using(crate::proofs::Went::walks))]
 fn renumber_formals(list: &mut [Formal], to: &[NameId])
-    ensures { map formal_of list.new ≡ map (renumbered_formal to.now) (map formal_of list.old) }
+    ensures { map formal_view list.new ≡ map (renumbered_formal to.now) (map formal_view list.old) }
 {
     for formal in list.iter_mut() {
         renumber_type(&mut formal.ty, to);
@@ -112,7 +112,7 @@ fn renumber_expr(expr: &mut Expr, to: &[NameId])
         Expr::Literal { .. } | Expr::This { .. } => {}
         Expr::Name { name } => renumber_identifier(name, to),
         Expr::OuterThis { class, .. } => renumber_name(class, to),
-        Expr::Brackets { inner, .. } => renumber_expr(inner, to),
+        Expr::Parens { inner, .. } => renumber_expr(inner, to),
         Expr::Select { object, field, .. } => {
             renumber_expr(object, to);
             renumber_identifier(field, to);
@@ -231,7 +231,7 @@ fn renumber_vars(list: &mut [Var], to: &[NameId])
 
 #[cycle(trees)]
 fn renumber_for_init(init: &mut ForInit, to: &[NameId])
-    ensures { start_seen init.new ≡ renumbered_start to.now (start_seen init.old) }
+    ensures { for_initializer_seen init.new ≡ renumbered_for_initializer to.now (for_initializer_seen init.old) }
 {
     match init {
         ForInit::Locals { ty, vars, .. } => {
@@ -339,7 +339,7 @@ fn renumber_stmt(stmt: &mut Stmt, to: &[NameId])
             renumber_catches(catches, to);
             renumber_stmts(&mut last.stmts, to);
         }
-        Stmt::Step { expr, .. } => renumber_expr(expr, to),
+        Stmt::ExpressionStatement { expr, .. } => renumber_expr(expr, to),
     }
 }
 
@@ -405,9 +405,9 @@ fn renumber_catches(list: &mut [Catch], to: &[NameId])
 }
 
 #[cycle(trees)]
-#[tactic(auto, using(crate::proofs::VariantsSeen::first_calls_seen))]
+#[tactic(auto, using(crate::proofs::VariantsSeen::constructor_invocations_seen))]
 fn renumber_call(call: &mut ConstructorCall, to: &[NameId])
-    ensures { first_call_seen call.new ≡ renumbered_first_call to.now (first_call_seen call.old) }
+    ensures { constructor_invocation_seen call.new ≡ renumbered_constructor_invocation to.now (constructor_invocation_seen call.old) }
 {
     if let ConstructorCall::Explicit { args, .. } = call {
         renumber_exprs(args, to);

@@ -1,5 +1,5 @@
-use Rattle.je_ast.proofs.VariantViews.{first_call_view-Explicit}
+use Rattle.je_ast.proofs.VariantViews.{constructor_invocation_view-Explicit}
 use Rattle.je_ast.proofs.making.make_explicit_call.Goals as goal
 
 pub returns : goal.returns
-returns c = first_call_view-Explicit c.args.is_super c.args.word c.args.args
+returns c = constructor_invocation_view-Explicit c.args.is_super c.args.word c.args.args

@@ -3,7 +3,7 @@ use Rattle.std.proofs.lemmas.List.{with_items_is}
 use Rattle.je_ast.specs.Seen.{expression_seen}
 use Rattle.je_ast.proofs.Went.{goes_on_below}
 use Rattle.je_ast.proofs.ListsWent.{expressions_went, variables_went, statements_went, labels_went, groups_went, catches_went, members_went}
-use Rattle.je_ast.proofs.VariantsRenumbered.{renumbered_expression-Name, renumbered_expression-OuterThis, renumbered_expression-Brackets, renumbered_expression-Select, renumbered_expression-SuperSelect, renumbered_expression-Call, renumbered_expression-CallOn, renumbered_expression-SuperCall, renumbered_expression-Index, renumbered_expression-New, renumbered_expression-NewAnonymous, renumbered_expression-NewArray, renumbered_expression-NewArrayOf, renumbered_expression-ArrayInit, renumbered_expression-Cast, renumbered_expression-Prefix, renumbered_expression-Postfix, renumbered_expression-Binary, renumbered_expression-InstanceOf, renumbered_expression-Conditional, renumbered_expression-Assign, renumbered_start-Locals, renumbered_start-Steps, renumbered_statement-Block, renumbered_statement-Local, renumbered_statement-Class, renumbered_statement-Labelled, renumbered_statement-If, renumbered_statement-IfElse, renumbered_statement-While, renumbered_statement-Do, renumbered_statement-For, renumbered_statement-ForEach, renumbered_statement-Switch, renumbered_statement-Break, renumbered_statement-Continue, renumbered_statement-Return, renumbered_statement-Throw, renumbered_statement-Try, renumbered_statement-TryFinally, renumbered_statement-Step, renumbered_first_call-Explicit, renumbered_member-Type, renumbered_member-Field, renumbered_member-Method, renumbered_member-Constructor, renumbered_member-Initializer, renumbered_declaration-Class, renumbered_declaration-Interface, renumbered_declaration-Enum}
+use Rattle.je_ast.proofs.VariantsRenumbered.{renumbered_expression-Name, renumbered_expression-OuterThis, renumbered_expression-Parens, renumbered_expression-Select, renumbered_expression-SuperSelect, renumbered_expression-Call, renumbered_expression-CallOn, renumbered_expression-SuperCall, renumbered_expression-Index, renumbered_expression-New, renumbered_expression-NewAnonymous, renumbered_expression-NewArray, renumbered_expression-NewArrayOf, renumbered_expression-ArrayInit, renumbered_expression-Cast, renumbered_expression-Prefix, renumbered_expression-Postfix, renumbered_expression-Binary, renumbered_expression-InstanceOf, renumbered_expression-Conditional, renumbered_expression-Assign, renumbered_for_initializer-Locals, renumbered_for_initializer-Steps, renumbered_statement-Block, renumbered_statement-Local, renumbered_statement-Class, renumbered_statement-Labelled, renumbered_statement-If, renumbered_statement-IfElse, renumbered_statement-While, renumbered_statement-Do, renumbered_statement-For, renumbered_statement-ForEach, renumbered_statement-Switch, renumbered_statement-Break, renumbered_statement-Continue, renumbered_statement-Return, renumbered_statement-Throw, renumbered_statement-Try, renumbered_statement-TryFinally, renumbered_statement-ExpressionStatement, renumbered_constructor_invocation-Explicit, renumbered_member-Type, renumbered_member-Field, renumbered_member-Method, renumbered_member-Constructor, renumbered_member-Initializer, renumbered_declaration-Class, renumbered_declaration-Interface, renumbered_declaration-Enum}
 use Rattle.je_ast.specs.declared.expr.Expr.TheVariants as expr
 use Rattle.je_ast.specs.declared.stmt.ForInit.TheVariants as for_init
 use Rattle.je_ast.specs.declared.stmt.Stmt.TheVariants as stmt
@@ -72,10 +72,10 @@ renumber_expr-returns-in-OuterThis t c =
     (renumbered_expression-OuterThis c.args.to.now c.in-OuterThis.class c.renumber_name.new.name c.in-OuterThis.this c.in-OuterThis.span
     (search rules))
 
-pub renumber_expr-returns-in-Brackets : goal.renumber_expr-returns-in-Brackets
-renumber_expr-returns-in-Brackets t c =
-    rw (c.in-Brackets.is, expr.outs-Brackets c.in-Brackets.inner c.in-Brackets.span)
-    (renumbered_expression-Brackets c.args.to.now c.in-Brackets.inner c.renumber_expr.new.expr c.in-Brackets.span
+pub renumber_expr-returns-in-Parens : goal.renumber_expr-returns-in-Parens
+renumber_expr-returns-in-Parens t c =
+    rw (c.in-Parens.is, expr.outs-Parens c.in-Parens.inner c.in-Parens.span)
+    (renumbered_expression-Parens c.args.to.now c.in-Parens.inner c.renumber_expr.new.expr c.in-Parens.span
     (search rules))
 
 pub renumber_expr-returns-in-Select : goal.renumber_expr-returns-in-Select
@@ -189,13 +189,13 @@ renumber_expr-returns-in-Assign t c =
 pub renumber_for_init-returns-in-Locals : goal.renumber_for_init-returns-in-Locals
 renumber_for_init-returns-in-Locals t c =
     rw (c.in-Locals.is, for_init.outs-Locals c.in-Locals.is_final c.in-Locals.ty c.in-Locals.vars)
-    (renumbered_start-Locals c.args.to.now c.in-Locals.is_final c.in-Locals.ty c.renumber_type.new.ty c.in-Locals.vars c.renumber_vars.new.list
+    (renumbered_for_initializer-Locals c.args.to.now c.in-Locals.is_final c.in-Locals.ty c.renumber_type.new.ty c.in-Locals.vars c.renumber_vars.new.list
     (search rules) (search rules) (search rules))
 
 pub renumber_for_init-returns-in-Steps : goal.renumber_for_init-returns-in-Steps
 renumber_for_init-returns-in-Steps t c =
     rw (c.in-Steps.is, for_init.outs-Steps c.in-Steps.steps)
-    (renumbered_start-Steps c.args.to.now c.in-Steps.steps c.renumber_exprs.new.list
+    (renumbered_for_initializer-Steps c.args.to.now c.in-Steps.steps c.renumber_exprs.new.list
     (search rules) (search rules))
 
 pub renumber_stmt-returns-in-Block : goal.renumber_stmt-returns-in-Block
@@ -300,16 +300,16 @@ renumber_stmt-returns-in-TryFinally t c =
     (renumbered_statement-TryFinally c.args.to.now c.in-TryFinally.first c.in-TryFinally.block c.renumber_stmts-in-TryFinally.new.list c.in-TryFinally.catches c.renumber_catches-in-TryFinally.new.list c.in-TryFinally.word c.in-TryFinally.last c.renumber_stmts-in-TryFinally-2.new.list c.in-TryFinally.span
     (search rules) (search rules) (search rules) (search rules) (search rules) (search rules))
 
-pub renumber_stmt-returns-in-Step : goal.renumber_stmt-returns-in-Step
-renumber_stmt-returns-in-Step t c =
-    rw (c.in-Step.is, stmt.outs-Step c.in-Step.first c.in-Step.expr c.in-Step.span)
-    (renumbered_statement-Step c.args.to.now c.in-Step.first c.in-Step.expr c.renumber_expr-in-Step.new.expr c.in-Step.span
+pub renumber_stmt-returns-in-ExpressionStatement : goal.renumber_stmt-returns-in-ExpressionStatement
+renumber_stmt-returns-in-ExpressionStatement t c =
+    rw (c.in-ExpressionStatement.is, stmt.outs-ExpressionStatement c.in-ExpressionStatement.first c.in-ExpressionStatement.expr c.in-ExpressionStatement.span)
+    (renumbered_statement-ExpressionStatement c.args.to.now c.in-ExpressionStatement.first c.in-ExpressionStatement.expr c.renumber_expr-in-ExpressionStatement.new.expr c.in-ExpressionStatement.span
     (search rules))
 
 pub renumber_call-returns-in-Explicit : goal.renumber_call-returns-in-Explicit
 renumber_call-returns-in-Explicit t c =
     rw (c.in-Explicit.is, call.outs-Explicit c.in-Explicit.is_super c.in-Explicit.word c.in-Explicit.args)
-    (renumbered_first_call-Explicit c.args.to.now c.in-Explicit.is_super c.in-Explicit.word c.in-Explicit.args c.renumber_exprs.new.list
+    (renumbered_constructor_invocation-Explicit c.args.to.now c.in-Explicit.is_super c.in-Explicit.word c.in-Explicit.args c.renumber_exprs.new.list
     (search rules) (search rules))
 
 pub renumber_member-returns-in-Type : goal.renumber_member-returns-in-Type
