@@ -10,7 +10,8 @@ use Rattle.std.proofs.lemmas.Bool.{and_parts, not-true, cases_lt}
 use Rattle.std.proofs.lemmas.Bool.Decides.{nat_tests}
 use Rattle.std.proofs.lemmas.List.{get_or-map, length-map}
 use Rattle.std.proofs.lemmas.List.Sums.{position_or_len_is}
-use Rattle.je_table.specs.Tables.{is_sorted, IsBoundary}
+use Rattle.je_table.specs.Tables.{is_sorted}
+use Rattle.je_table.specs.way.Boundary.{IsBoundary}
 
 module _ {X K : Type 0} (key : X → K) {R : K → K → Ordering} (total : IsTotalOrder R) (word : K) where
   -- 0 for a row before the word, 1 for the word, 2 for a row after it

@@ -3,3 +3,4 @@ pub mod Members
 pub mod Rows
 pub mod Tables
 pub mod Words
+pub mod way

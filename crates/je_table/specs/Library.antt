@@ -1,6 +1,7 @@
 -- The classes of the library and their members: a part of java.lang (Java 5), the markers of Joe-E, and what a host lends.
 use Rattle.std.specs.Prelude.{ℕ, zero, suc, ◌+◌, ◌==◌, Bool, true, false, List, [], ◌∷◌, ◌++◌, map, Option, Some, None, unwrap_or, codes}
-use Rattle.std.specs.List.{after_last, join_with_byte}
+use Rattle.std.specs.List.{after_last, join_with_byte, position}
+use Rattle.std.specs.Str.{bytes_eq}
 use Rattle.je_table.specs.declared.classes.LibraryClass.{LibraryClass}
 use Rattle.je_table.specs.declared.classes.LibraryClass.TheVariants as class
 use Rattle.je_table.specs.declared.classes.Super.{Super}
@@ -164,6 +165,10 @@ all_classes =
 
 abbrev pub classes : List Class
 classes = map class_row all_classes
+
+-- the number of a library class: the place of its full name among the classes
+abbrev pub class_number : List ℕ → Option ℕ
+class_number name = position (λ class. bytes_eq class.name name) classes
 
 -- ---- how a member's signature is written: its name, and the simple names of its parameters' erased types
 

@@ -1,9 +1,9 @@
 -- Tables in the order of their keys (texts in the order of their bytes, as Rust's `Ord` has it for `str`), and the
 -- first row that has a key.
-use Rattle.std.specs.Prelude.{ℕ, Bool, true, not, ◌&&◌, ◌≤◌, List, [], ◌∷◌, map, length, Option, IsTrue, IsFalse}
+use Rattle.std.specs.Prelude.{ℕ, Bool, true, not, ◌&&◌, List, [], ◌∷◌, map, Option}
 use Rattle.std.specs.Cmp.Lexicographic.{slice_cmp}
-use Rattle.std.specs.List.{AllWithin, position}
-use Rattle.std.specs.Ordering.{is_gt, is_lt, nat_cmp}
+use Rattle.std.specs.List.{position}
+use Rattle.std.specs.Ordering.{is_gt, nat_cmp}
 use Rattle.std.specs.Str.{bytes_eq}
 use Rattle.std.specs.declared.cmp.Ordering.{Ordering}
 use Rattle.std.proofs.Common.{Bor}
@@ -29,9 +29,3 @@ texts = map (λ row. row.now)
 -- the place of the first text that is the word
 abbrev pub place_of : List ℕ → List (List ℕ) → Option ℕ
 place_of word = position (λ text. bytes_eq text word)
-
--- i rows are before what is looked for, and the others aren't; `order` compares a row with what is looked for
-pub record IsBoundary {X : Type 0} (order : X → Ordering) (rows : List X) (i : ℕ) : Type 0 where
-  pub within : i ≤ length rows
-  pub before : AllWithin (λ row. IsTrue (is_lt (order row))) rows 0 i
-  pub behind : AllWithin (λ row. IsFalse (is_lt (order row))) rows i (length rows)

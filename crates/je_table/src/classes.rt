@@ -49,12 +49,25 @@ pub enum LibraryClass {
     NumberFormatException,
 }
 
+impl LibraryClass {
+    ghost use Rattle.je_table.specs.Library.{class_number, class_row};
+
+    /// Its number, 0 to 38: the place of its full name among the classes.
+    pub fn number(self) -> u32
+        ensures { class_number (class_row self).name ≡ Some result }
+    {
+        self as u32
+    }
+}
+
 /// What the language says of a library class.
 #[derive(Clone, Copy, Debug)]
 pub struct ClassRow {
     /// The full name, as `java.lang.String`.
     pub name: &'static str,
+    /// An interface, and no class.
     pub is_interface: bool,
+    /// No class extends it.
     pub is_final: bool,
     /// The bound of its one type parameter, which is Object where none is written; none for a class that isn't generic.
     pub bound: Option<LibraryClass>,
@@ -67,6 +80,7 @@ pub struct ClassRow {
 /// A class that stands directly above another.
 #[derive(Clone, Copy, PartialEq, Eq, Debug)]
 pub struct Super {
+    /// The class or interface above.
     pub class: LibraryClass,
     /// Its type argument, where it is generic.
     pub argument: Option<LibraryClass>,

@@ -4,9 +4,11 @@
 //! place of the first row that has the key, none exactly where no row has it. Contracts see a table as the list of its
 //! rows. Layers above use these:
 //!
-//! - `find_keyword(word)` and `find_operator(word)`, or `find_word` over a table of one's own. That a table is sorted is a
-//!   Bool test, so a caller proves it by naming the static: `find_word(&KEYWORDS, word)` leaves no goal, in any crate. A
-//!   file of `specs/` names the tables as lists of texts, `Rattle.je_table.specs.Words.{keywords, operators}`.
+//! - `find_keyword(word)`, or `find_word` over another table. That a table is sorted is a Bool test, so a caller proves it
+//!   by naming the static: `find_word(&OPERATORS, word)` leaves no goal, in any crate. A file of `specs/` names the
+//!   keywords as a list of texts, `Rattle.je_table.specs.Words.keywords`.
+//! - `LibraryClass::number()`, the number of a class: the place of its name in the list of classes, as the definition
+//!   `Rattle.je_table.specs.Library.class_number` says.
 //! - `class_rows()` and `member_rows()`, which are `CLASSES` and `LIBRARY` with what is proved of them: their rows are those
 //!   of the definition `Rattle.je_table.specs.Library.{classes, library}`, and the members are sorted, so that
 //!   `find_member(member_rows(), class, signature)` leaves no goal.
@@ -34,7 +36,7 @@ pub use classes::{CLASSES, ClassRow, LibraryClass, Super, class_rows};
 pub use library::{LIBRARY, member_rows};
 pub use members::{CostKind, MemberRow, find_member};
 pub use types::{RowBase, RowType};
-pub use words::{KEYWORDS, OPERATORS, find_keyword, find_operator, find_word};
+pub use words::{KEYWORDS, OPERATORS, find_keyword, find_word};
 
 #[cfg(test)]
 mod tests;

@@ -1,6 +1,7 @@
 //! The members of the library's classes.
 ghost use Rattle.std.specs.Prelude.{◌≡◌, IsTrue};
-ghost use Rattle.je_table.specs.Tables.{is_sorted, IsBoundary};
+ghost use Rattle.je_table.specs.Tables.{is_sorted};
+ghost use Rattle.je_table.specs.way.Boundary.{IsBoundary};
 ghost use Rattle.je_table.specs.Members.{key_cmp, keys, key_of, place_of_key};
 
 use crate::types::RowType;
@@ -25,13 +26,17 @@ pub struct MemberRow {
     pub class: &'static str,
     /// Its name, and if it is no field the simple names of its parameters' erased types: `substring(int,int)`.
     pub signature: &'static str,
+    /// Its name alone; `new` for a constructor.
     pub name: &'static str,
-    /// None for a field.
+    /// The types of its parameters before erasure; none for a field.
     pub parameters: Option<&'static [RowType]>,
     /// A field's own type; `void` for a constructor.
     pub returns: RowType,
+    /// It belongs to the class, and takes no receiver.
     pub is_static: bool,
+    /// A taming text may enable it; no accepted program reaches a wild one.
     pub tame: bool,
+    /// What a call costs beside its node.
     pub cost: CostKind,
 }
 

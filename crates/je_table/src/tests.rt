@@ -43,11 +43,11 @@ fn finds_each_operator(rt: HostRuntime) -> Result<(), Fail> {
                      |= ^= %= <<= >>= >>>=";
     assert_eq!(rt; operators.split_whitespace().count(), OPERATORS.len());
     for operator in operators.split_whitespace() {
-        let at = find_operator(operator).ok_or("an operator is missing")?;
+        let at = find_word(&OPERATORS, operator).ok_or("an operator is missing")?;
         assert_eq!(rt; OPERATORS.get(at), Some(&operator));
     }
     for word in ["", "..", "->", "::", "#", "===", ">>>>"] {
-        assert_eq!(rt; find_operator(word), None, "{word}");
+        assert_eq!(rt; find_word(&OPERATORS, word), None, "{word}");
     }
     Ok(())
 }
@@ -206,6 +206,8 @@ fn has_each_class(rt: HostRuntime) -> Result<(), Fail> {
         assert_eq!(rt; count_members(name), *members, "{name}");
     }
     assert_eq!(rt; class_rows().len(), CLASS_FACTS.len());
+    assert_eq!(rt; LibraryClass::Object.number(), 0);
+    assert_eq!(rt; LibraryClass::NumberFormatException.number(), 38);
     Ok(())
 }
 

@@ -1,7 +1,8 @@
 //! Words and signs: the keywords and operators of Java 5 (JLS 3.9 to 3.12), and the place of a word in a table.
 ghost use Rattle.std.specs.Prelude.{◌≡◌, IsTrue};
-ghost use Rattle.je_table.specs.Tables.{is_sorted, text_cmp, texts, place_of, IsBoundary};
-ghost use Rattle.je_table.specs.Words.{keywords, operators};
+ghost use Rattle.je_table.specs.Tables.{is_sorted, text_cmp, texts, place_of};
+ghost use Rattle.je_table.specs.way.Boundary.{IsBoundary};
+ghost use Rattle.je_table.specs.Words.{keywords};
 
 /// Java's reserved words, with `true`, `false` and `null`, sorted by their bytes.
 pub static KEYWORDS: [&str; 53] = [
@@ -72,13 +73,6 @@ pub fn find_keyword(word: &str) -> Option<usize>
     ensures { result ≡ place_of word.now keywords }
 {
     find_word(&KEYWORDS, word)
-}
-
-/// The place of `word` in `OPERATORS`; none exactly where it is no separator or operator.
-pub fn find_operator(word: &str) -> Option<usize>
-    ensures { result ≡ place_of word.now operators }
-{
-    find_word(&OPERATORS, word)
 }
 
 /// The place of the first row that is `word`; none exactly where no row is.
