@@ -13,7 +13,8 @@ use Rattle.je_core.specs.declared.program.Field.{Field as FieldOf}
 use Rattle.je_core.specs.declared.program.Local.{Local as LocalOf}
 use Rattle.je_core.specs.declared.expr.BinOp.TheVariants.{Add, Sub}
 use Rattle.je_core.specs.Core.{Core, CoreForm, Const, Local, This, Field, Assign, Binary, CallVirtual, CallExact, New, CoreStmt, CoreStmtForm, Block, Do, Return, CoreMethod, CoreProgram, node, stmt, cores, maybe_core, core_stmts}
-use Rattle.je_java.specs.Steps.{State, Answer, Done, Spent, Wrong}
+use Rattle.je_java.specs.World.{World}
+use Rattle.je_java.specs.Steps.{State, Outside, Answer, Done, Spent, Wrong}
 use Rattle.je_java.specs.Meaning.{java, meanings, call}
 use Rattle.je_java.specs.Opened.{opened}
 
@@ -66,12 +67,24 @@ gives e = statement (Return (Some e))
 abbrev pub does : Core → CoreStmt
 does e = statement (Do e)
 
+-- a world without class variables
+abbrev pub world : List Obj → World
+world objects = record { objects = objects; statics = [] }
+
+abbrev pub nothing : Outside
+nothing = record {}
+
 -- a call of the class's first method, without a receiver and with 1,000,000 units
 abbrev run : List CoreMethod → List Value → Answer
-run methods given = call (program methods) 1000000 (record { 0 = 0 }) 0 Null given []
+run methods given = call (program methods) 1000000 (record { 0 = 0 }) 0 Null given (world []) nothing
 
 abbrev pub after : List Obj → ℕ → ℕ → State
-after objects units begun = record { objects = objects; own = record { this = Null; locals = [] }; public = record { units = units; begun = begun } }
+after objects units begun = record {
+  world = world objects;
+  own = record { this = Null; locals = [] };
+  public = record { units = units; begun = begun };
+  outside = nothing;
+}
 
 -- int f() { return 1 + 2; }, folded: Block, Return, Const
 folded : run (method true int [] (body (gives (constant (Int (pos 3))) ∷ [])) ∷ []) [] ≡ Done (Int (pos 3)) (after [] 999997 3)
@@ -121,18 +134,18 @@ abbrev an_object : List Value → List Obj
 an_object slots = Instance (record { 0 = 0 }) slots ∷ []
 
 -- void f() { m = m + 1; } on an object: the Block and 7 more
-on_field : call (program (method false void [] (body (counts_field ∷ [])) ∷ [])) 1000000 (record { 0 = 0 }) 0 (Ref (record { 0 = 0 })) [] (an_object (Int (pos 5) ∷ Int (pos 7) ∷ [])) ≡
+on_field : call (program (method false void [] (body (counts_field ∷ [])) ∷ [])) 1000000 (record { 0 = 0 }) 0 (Ref (record { 0 = 0 })) [] (world (an_object (Int (pos 5) ∷ Int (pos 7) ∷ []))) nothing ≡
     Done Null (after (an_object (Int (pos 5) ∷ Int (pos 8) ∷ [])) 999992 8)
 unfolding java meanings opened int_wrap
 on_field = refl
 
 -- as many units as it takes, and one fewer
-just_enough : call (program (method false void [] (body (counts_field ∷ [])) ∷ [])) 8 (record { 0 = 0 }) 0 (Ref (record { 0 = 0 })) [] (an_object (Int (pos 5) ∷ Int (pos 7) ∷ [])) ≡
+just_enough : call (program (method false void [] (body (counts_field ∷ [])) ∷ [])) 8 (record { 0 = 0 }) 0 (Ref (record { 0 = 0 })) [] (world (an_object (Int (pos 5) ∷ Int (pos 7) ∷ []))) nothing ≡
     Done Null (after (an_object (Int (pos 5) ∷ Int (pos 8) ∷ [])) 0 8)
 unfolding java meanings opened int_wrap
 just_enough = refl
 
-too_few : call (program (method true class_a [] (body (gives made_a ∷ [])) ∷ constructor ∷ [])) 4 (record { 0 = 0 }) 0 Null [] [] ≡
+too_few : call (program (method true class_a [] (body (gives made_a ∷ [])) ∷ constructor ∷ [])) 4 (record { 0 = 0 }) 0 Null [] (world []) nothing ≡
     Spent (after [] 1 3)
 unfolding java meanings opened
 too_few = refl
@@ -144,7 +157,7 @@ caller receiver = method true int (local_of class_a ∷ []) (body (gives (expr (
 abbrev called : CoreMethod
 called = method false int (local_of int ∷ local_of int ∷ []) (body (does (expr (Assign last_field (local 0))) ∷ gives (expr (Binary Sub last_field (local 1))) ∷ []))
 
-on_object : call (program (caller (local 0) ∷ called ∷ [])) 1000000 (record { 0 = 0 }) 0 Null (Ref (record { 0 = 0 }) ∷ []) (an_object (Int (pos 5) ∷ Int (pos 7) ∷ [])) ≡
+on_object : call (program (caller (local 0) ∷ called ∷ [])) 1000000 (record { 0 = 0 }) 0 Null (Ref (record { 0 = 0 }) ∷ []) (world (an_object (Int (pos 5) ∷ Int (pos 7) ∷ []))) nothing ≡
     Done (Int (negsuc 0)) (after (an_object (Int (pos 5) ∷ Int (pos 1) ∷ [])) 999984 16)
 unfolding java meanings opened int_wrap
 on_object = refl
@@ -153,11 +166,11 @@ on_object = refl
 abbrev recursive : CoreMethod
 recursive = method true int (local_of int ∷ []) (body (gives (expr (CallExact (maybe_core None) (record { 0 = 0 }) 0 (cores (local 0 ∷ [])))) ∷ []))
 
-never_ends : call (program (recursive ∷ [])) 41 (record { 0 = 0 }) 0 Null (Int (pos 7) ∷ []) [] ≡ Spent (record (after [] 0 41) { own = record { this = Null; locals = Int (pos 7) ∷ [] } })
+never_ends : call (program (recursive ∷ [])) 41 (record { 0 = 0 }) 0 Null (Int (pos 7) ∷ []) (world []) nothing ≡ Spent (record (after [] 0 41) { own = record { this = Null; locals = Int (pos 7) ∷ [] } })
 unfolding java meanings opened
 never_ends = refl
 
 -- null has no slots: there is no NullPointerException in a program of one class
-on_null : call (program (caller (local 0) ∷ called ∷ [])) 1000000 (record { 0 = 0 }) 0 Null (Null ∷ []) [] ≡ Wrong
+on_null : call (program (caller (local 0) ∷ called ∷ [])) 1000000 (record { 0 = 0 }) 0 Null (Null ∷ []) (world []) nothing ≡ Wrong
 unfolding java meanings opened
 on_null = refl
