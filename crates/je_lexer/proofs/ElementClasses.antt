@@ -16,7 +16,7 @@ pub ascii_starts : (code : ℕ) → code < 128 → starts_name code ≡ (is_asci
 unfolding starts_name
 ascii_starts code low = rw (low_scalar code (omega arith), is_xid_start-ascii code low) refl
 
-ascii_continues : (code : ℕ) → code < 128 → continues_name code ≡ ((is_ascii_alphanumeric code || (code == 95)) || (code == 36))
+pub ascii_continues : (code : ℕ) → code < 128 → continues_name code ≡ ((is_ascii_alphanumeric code || (code == 95)) || (code == 36))
 unfolding continues_name
 ascii_continues code low = rw (low_scalar code (omega arith), is_xid_continue-ascii code low) refl
 

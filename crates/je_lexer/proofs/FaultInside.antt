@@ -1,26 +1,18 @@
 -- A file's fault stands inside it.
-use Rattle.std.proofs.Common.{ℕ, suc, ◌+◌, ◌-◌, ◌*◌, ◌<◌, ◌≤◌, Bool, true, false, ◌&&◌, ◌||◌, ◌==◌, nat_le, List, [], ◌∷◌, length, take, drop, Option, Some, None, if◌then◌else◌, subst, arith}
+use Rattle.std.proofs.Common.{ℕ, ◌+◌, ◌-◌, ◌*◌, ◌≤◌, Bool, true, false, ◌||◌, ◌==◌, nat_le, List, [], ◌∷◌, length, Option, Some, None, if◌then◌else◌, subst, arith}
 use Rattle.std.specs.Option.{IfSome}
 use Rattle.std.specs.Str.{chars}
 use Rattle.je_decode.specs.Escapes.{Piece, turns, Malformed}
 use Rattle.je_decode.specs.Places.{placed}
 use Rattle.je_decode.specs.declared.character.Character.{Character}
-use Rattle.je_token.specs.declared.symbol.Symbol.{Symbol}
-use Rattle.je_lexer.specs.Classes.{is_space, starts_name, is_digit_below, begins_with, begins_with_digit, tail}
-use Rattle.je_lexer.specs.Cutting.{start_of, end_of, cut_at, cut_len, bad_number, if_number, number_cut, literal_cut, comment_cut, if_symbol}
-use Rattle.je_lexer.specs.Lexing.{Fails, front_of, HasFault}
-use Rattle.je_lexer.specs.Numbers.{number_before}
-use Rattle.je_lexer.specs.Runs.{space_run, name_run, number_run, line_run, comment_run, literal_run}
+use Rattle.je_lexer.specs.Classes.{ends_line, continues_name}
+use Rattle.je_lexer.specs.Elements.{body}
+use Rattle.je_lexer.specs.Faults.{IsLiteral, IsWrong}
+use Rattle.je_lexer.specs.Lexing.{Fails, HasFault}
+use Rattle.je_lexer.specs.Spans.{end_of, line_end, number_end}
 use Rattle.je_lexer.specs.Texts.{TextPiece, units_of, one_unit, is_octal, simple_escape, and_octal, and_octals, with_rest, escape_piece, text_piece, HasBadBackslash}
-use Rattle.je_lexer.specs.Tokens.{IsFault, body}
-use Rattle.je_lexer.specs.Words.{symbol_at}
-use Rattle.je_lexer.specs.declared.cutting.Cut.{Cut}
-use Rattle.je_lexer.specs.declared.cutting.Cut.TheVariants as cut
 use Rattle.je_lexer.specs.declared.fault.FaultKind.{FaultKind}
-use Rattle.je_lexer.specs.declared.fault.FaultKind.TheVariants as fault
-use Rattle.je_lexer.specs.declared.numbers.Number.{Number}
-use Rattle.je_lexer.proofs.Inside.{Stand, stand_room, stand_take, stand_drop, without_first, piece_stands, raw_stand, decoded_stand, ends_within, front_within}
-use Rattle.je_lexer.proofs.Total.{cut_grows}
+use Rattle.je_lexer.proofs.Inside.{Stand, stand_room, stand_take, stand_front, without_first, piece_stands, raw_stand, decoded_stand, ends_within, next_stands}
 
 -- the bytes are in a file of so many bytes
 abbrev Within : ℕ → ℕ → ℕ → Type 0
@@ -79,97 +71,54 @@ module _ (high : ℕ) where
   backslash_within low _ bad (HasBadBackslash.later {c = c} {cs = cs} {p = p} is worse) h =
       let Q = λ (o : Option TextPiece). IfSome o (λ q. Stand low high q.rest) in backslash_within low p.rest bad worse (subst Q is (text_piece_stands low c cs h))
 
-  -- ---- pieces
-
-  abbrev IsWithin : Cut → Type 0
-  IsWithin (cut.Fault kind start end) = Within high start end
-  IsWithin k = Unit {0}
-
-  -- where the piece is a fault, its bytes are in the file
-  record Fits (k : Cut) : Type 0 where
-    within : IsWithin k
-
-  either : (b : Bool) (j k : Cut) → Fits j → Fits k → Fits (if b then j else k)
-  either true j k f g = f
-  either false j k f g = g
-
-  begins_within : (low : ℕ) (cs : List Character) → Stand low high cs → (low ≤ start_of high cs) × (start_of high cs ≤ high)
-  begins_within low [] h = (h, omega arith)
-  begins_within low (c ∷ cs) h = let room = stand_room c.end high cs h.2 in (h.0, omega (arith, h.1))
-
-  bad_number_fits : (low : ℕ) (c : Character) (cs : List Character) → Stand low high (c ∷ cs) → Fits (bad_number c cs)
-  unfolding bad_number
-  bad_number_fits low c cs h =
-      let k = ends_within c.end high (take (number_run cs) cs) (stand_take (number_run cs) c.end high cs h.2) in record { within = (omega (arith, h.1, k.0), k.1) }
-
-  number_fits : (low : ℕ) (c : Character) (cs : List Character) → Stand low high (c ∷ cs) → Fits (number_cut c cs)
-  unfolding number_cut
-  number_fits low c cs h = by (number_before (drop (name_run cs) cs) (take (suc (name_run cs)) (c ∷ cs)))
-    where
-      by : (o : Option Number) → Fits (if_number (bad_number c cs) o (suc (name_run cs)))
-      by None = bad_number_fits low c cs h
-      by (Some n) = record { within = tt }
-
-  literal_fits : (low : ℕ) (c : Character) (cs : List Character) → Stand low high (c ∷ cs) → Fits (literal_cut high c cs)
-  unfolding literal_cut
-  literal_fits low c cs h =
-      let n = literal_run c.code false cs in let k = begins_within c.end (drop n cs) (stand_drop n c.end high cs h.2) in
-      let unclosed : Fits (cut.Fault fault.OpenText c.start (start_of high (drop n cs))) = record { within = (omega (arith, h.1, k.0), k.1) } in
-      either _ (cut.Literal (n + 2)) _ (record { within = tt }) unclosed
-
-  comment_fits : (low : ℕ) (c : Character) (cs ds : List Character) → Stand low high (c ∷ cs) → Fits (comment_cut high c ds)
-  unfolding comment_cut
-  comment_fits low c cs ds h =
-      let k = first_within low c cs h in
-      let unclosed : Fits (cut.Fault fault.OpenComment c.start high) = record { within = (omega (arith, k.0, k.1), omega arith) } in
-      either _ (cut.Blank (comment_run ds + 4)) _ (record { within = tt }) unclosed
-
-  symbol_fits : (low : ℕ) (c : Character) (cs : List Character) (o : Option Symbol) → Stand low high (c ∷ cs) → Fits (if_symbol c o)
-  symbol_fits low c cs None h = record { within = first_within low c cs h }
-  symbol_fits low c cs (Some s) h = record { within = tt }
-
-  cut_fits : (low : ℕ) (c : Character) (cs : List Character) → Stand low high (c ∷ cs) → Fits (cut_at high c cs)
-  unfolding cut_at
-  cut_fits low c cs h =
-      let space : Fits (cut.Blank (suc (space_run cs))) = record { within = tt } in let line : Fits (cut.Blank (suc (line_run cs))) = record { within = tt } in
-      let word : Fits (cut.Word (suc (name_run cs))) = record { within = tt } in
-      either (is_space c.code) _ _ space (either (starts_name c.code) _ _ word (either (is_digit_below 10 c.code) _ _ (number_fits low c cs h)
-      (either ((c.code == 46) && begins_with_digit 10 cs) _ _ (bad_number_fits low c cs h) (either ((c.code == 34) || (c.code == 39)) _ _ (literal_fits low c cs h)
-      (either ((c.code == 47) && begins_with 47 cs) _ _ line
-      (either ((c.code == 47) && begins_with 42 cs) _ _ (comment_fits low c cs (tail cs) h) (symbol_fits low c cs (symbol_at (c ∷ cs)) h)))))))
+  -- ---- places where no element begins
 
   body_stands : (low : ℕ) (front : List Character) → Stand low high front → Stand low high (body front)
   body_stands low [] h = h
   body_stands low (c ∷ cs) h = stand_take (length (c ∷ cs) - 2) low high cs (without_first low high c cs h)
 
-  piece_within : (low : ℕ) (k : Cut) (front : List Character) (kind : FaultKind) (start end : ℕ) → IsFault k front kind start end → Fits k → Stand low high front →
-      Within high (start_of 0 front) (end_of 0 front) → Within high start end
-  piece_within low _ front kind start end IsFault.uncut fits h whole = fits.within
-  piece_within low _ front _ _ _ (IsFault.bad_escape {bad = bad} worse) fits h whole = backslash_within low (body front) bad worse (body_stands low front h)
-  piece_within low _ front _ _ _ (IsFault.no_unit quote means many) fits h whole = whole
+  line_within : (low : ℕ) (cs : List Character) → Stand low high cs → Within high low (line_end high cs)
+  line_within low [] h = (h, omega arith)
+  line_within low (c ∷ cs) h = by (ends_line c.code) (line_within c.end cs h.2)
+    where
+      by : (b : Bool) → Within high c.end (line_end high cs) → Within high low (if b then c.start else line_end high cs)
+      by true k = let room = stand_room c.end high cs h.2 in (h.0, omega (arith, h.1))
+      by false k = (omega (arith, h.0, h.1, k.0), k.1)
 
-  front_stands : (low : ℕ) (o : Option ℕ) (text : List Character) → Stand low high text → Stand low high (front_of o text)
-  front_stands low None text h = stand_room low high text h
-  front_stands low (Some n) text h = stand_take n low high text h
+  number_within : (low : ℕ) (cs : List Character) → Stand low high cs → Within high low (number_end low cs)
+  number_within low [] h = (omega arith, h)
+  number_within low (c ∷ cs) h = by (continues_name c.code || (c.code == 46)) (number_within c.end cs h.2)
+    where
+      by : (b : Bool) → Within high c.end (number_end c.end cs) → Within high low (if b then number_end c.end cs else low)
+      by true k = (omega (arith, h.0, h.1, k.0), k.1)
+      by false k = (omega arith, stand_room low high (c ∷ cs) h)
 
-  whole_front : (low : ℕ) (o : Option ℕ) (c : Character) (cs : List Character) → IfSome o (λ n. 0 < n) → Stand low high (c ∷ cs) →
-      Within high (start_of 0 (front_of o (c ∷ cs))) (end_of 0 (front_of o (c ∷ cs)))
-  whole_front low None c cs some h = (omega arith, omega arith)
-  whole_front low (Some n) c cs some h = front_within n low high c cs some h
+  literal_stands : (low : ℕ) (text : List Character) (quote : Character) (inside behind : List Character) → IsLiteral text quote inside behind → Stand low high text →
+      Stand low high (quote ∷ inside)
+  literal_stands low text quote inside behind literal h = stand_front low high (quote ∷ inside) behind (subst (Stand low high) literal.parts h)
 
-  fails_within : (file low : ℕ) (text : List Character) (kind : FaultKind) (start end : ℕ) → Fails file high text kind start end → Stand low high text → Within high start end
-  fails_within file low _ kind start end (Fails.here {c = c} {cs = cs} fault) h =
-      let o = cut_len (cut_at high c cs) in
-      piece_within low (cut_at high c cs) (front_of o (c ∷ cs)) kind start end fault (cut_fits low c cs h) (front_stands low o (c ∷ cs) h)
-      (whole_front low o c cs (cut_grows high c cs).some h)
-  fails_within file low _ kind start end (Fails.behind_blank {c = c} {cs = cs} {n = n} is worse) h =
-      fails_within file low (drop n (c ∷ cs)) kind start end worse (stand_drop n low high (c ∷ cs) h)
-  fails_within file low _ kind start end (Fails.behind_token {c = c} {cs = cs} {n = n} is given worse) h =
-      fails_within file low (drop n (c ∷ cs)) kind start end worse (stand_drop n low high (c ∷ cs) h)
+  from_first : (low end : ℕ) (c : Character) (cs : List Character) → Stand low high (c ∷ cs) → Within high c.end end → Within high c.start end
+  from_first low end c cs h k = (omega (arith, h.1, k.0), k.1)
 
-pub fault_inside : (file : ℕ) (bytes : List ℕ) (kind : FaultKind) (start end : ℕ) → HasFault file bytes kind start end → (start ≤ end) × (end ≤ length bytes)
-fault_inside file bytes _ _ _ (HasFault.not_utf8 {at = at} short) = (omega arith, omega (arith, short.short))
-fault_inside file bytes _ _ _ (HasFault.malformed {bad = bad} worse) =
+  wrong_within : (low : ℕ) (text : List Character) (kind : FaultKind) (start end : ℕ) → IsWrong high text kind start end → Stand low high text → Within high start end
+  wrong_within low text _ _ _ (IsWrong.bad_escape {inside = i} {behind = b} {quote = c} {bad = bad} literal worse) h =
+      backslash_within low (body (c ∷ i)) bad worse (body_stands low (c ∷ i) (literal_stands low text c i b literal h))
+  wrong_within low _ _ _ _ (IsWrong.bad_char {c = c} {cs = cs} number comment quote) h = first_within low c cs h
+  wrong_within low _ _ _ _ (IsWrong.open_comment {c = c} {cs = cs} comment) h =
+      let k = first_within low c cs h in (omega (arith, k.0, k.1), omega arith)
+  wrong_within low _ _ _ _ (IsWrong.open_text {quote = c} {cs = cs} opened none) h = from_first low (line_end high cs) c cs h (line_within c.end cs h.2)
+  wrong_within low _ _ _ _ (IsWrong.bad_number {c = c} {cs = cs} number) h = from_first low (number_end c.end cs) c cs h (number_within c.end cs h.2)
+  wrong_within low text _ _ _ (IsWrong.no_unit {inside = i} {behind = b} {quote = c} literal single means many) h =
+      let k = literal_stands low text c i b literal h in from_first low (end_of c.end i) c i k (ends_within c.end high i k.2)
+
+  fails_within : (low : ℕ) (text : List Character) (kind : FaultKind) (start end : ℕ) → Fails high text kind start end → Stand low high text → Within high start end
+  fails_within low text kind start end (Fails.here none wrong) h = wrong_within low text kind start end wrong h
+  fails_within low text kind start end (Fails.later {front = f} {behind = b} {e = e} next worse) h =
+      fails_within low b kind start end worse (next_stands low high text e f b next h).1
+
+pub fault_inside : (bytes : List ℕ) (kind : FaultKind) (start end : ℕ) → HasFault bytes kind start end → (start ≤ end) × (end ≤ length bytes)
+fault_inside bytes _ _ _ (HasFault.not_utf8 {at = at} short) = (omega arith, omega (arith, short.short))
+fault_inside bytes _ _ _ (HasFault.malformed {bad = bad} worse) =
     malformed_within (length bytes) 0 false (placed 0 (chars bytes)) bad worse.malformed (raw_stand bytes worse.utf8)
-fault_inside file bytes kind start end (HasFault.uncut characters decoded worse) =
-    fails_within (length bytes) file 0 characters kind start end worse (decoded_stand bytes characters decoded)
+fault_inside bytes kind start end (HasFault.no_element characters decoded worse) =
+    fails_within (length bytes) 0 characters kind start end worse (decoded_stand bytes characters decoded)

@@ -1,5 +1,5 @@
 -- A file's tokens stand inside it.
-use Rattle.std.proofs.Common.{◌≡◌, ℕ, zero, suc, ◌+◌, ◌-◌, ◌*◌, ◌<◌, ◌≤◌, Bool, true, false, ◌==◌, List, [], ◌∷◌, length, take, drop, Option, Some, None, option_map, if◌then◌else◌, All, refl, sym, ap, subst, arith, length-append}
+use Rattle.std.proofs.Common.{◌≡◌, ℕ, zero, suc, ◌+◌, ◌-◌, ◌*◌, ◌<◌, ◌≤◌, Bool, true, false, ◌==◌, List, [], ◌∷◌, ◌++◌, length, take, Option, Some, None, option_map, if◌then◌else◌, All, refl, sym, ap, subst, arith, length-append}
 use Rattle.std.specs.Char.{digit_value, encode_utf8}
 use Rattle.std.specs.Option.{IfSome}
 use Rattle.std.specs.Str.{chars, encode_utf8_all, IsUtf8}
@@ -10,11 +10,11 @@ use Rattle.je_decode.specs.Escapes.{Escape, Piece, is_hexadecimal, is_high, behi
 use Rattle.je_decode.specs.Places.{placed}
 use Rattle.je_decode.specs.declared.character.Character.{Character}
 use Rattle.je_token.specs.declared.token.Token.{Token}
-use Rattle.je_lexer.specs.Cutting.{start_of, end_of}
+use Rattle.je_lexer.specs.Elements.{Element, IsNext}
+use Rattle.je_lexer.specs.Spans.{start_of, end_of}
 use Rattle.je_lexer.specs.Lexing.{Lexes, HasTokens, IsInside, end_token}
 use Rattle.je_lexer.specs.Tokens.{Gives, token}
-use Rattle.je_lexer.specs.declared.cutting.Cut.{Cut}
-use Rattle.je_lexer.proofs.Total.{cut_grows}
+use Rattle.je_lexer.proofs.Next.{next_some}
 
 -- the characters stand one behind the other, from one byte to another
 abbrev pub Stand : ℕ → ℕ → List Character → Type 0
@@ -37,10 +37,13 @@ stand_take zero low high cs h = stand_room low high cs h
 stand_take (suc n) low high [] h = h
 stand_take (suc n) low high (c ∷ cs) h = (h.0, h.1, stand_take n c.end high cs h.2)
 
-pub stand_drop : (n low high : ℕ) (cs : List Character) → Stand low high cs → Stand low high (drop n cs)
-stand_drop zero low high cs h = h
-stand_drop (suc n) low high [] h = h
-stand_drop (suc n) low high (c ∷ cs) h = stand_drop n low high cs (without_first low high c cs h)
+pub stand_front : (low high : ℕ) (front behind : List Character) → Stand low high (front ++ behind) → Stand low high front
+stand_front low high [] behind h = stand_room low high behind h
+stand_front low high (c ∷ cs) behind h = (h.0, h.1, stand_front c.end high cs behind h.2)
+
+pub stand_behind : (low high : ℕ) (front behind : List Character) → Stand low high (front ++ behind) → Stand low high behind
+stand_behind low high [] behind h = h
+stand_behind low high (c ∷ cs) behind h = stand_behind low high cs behind (without_first low high c (cs ++ behind) h)
 
 stand_placed : (at : ℕ) (cs : List ℕ) → Stand at (at + length (encode_utf8_all cs)) (placed at cs)
 stand_placed at [] = omega arith
@@ -155,30 +158,38 @@ pub ends_within : (low high : ℕ) (cs : List Character) → Stand low high cs �
 ends_within low high [] h = (omega arith, h)
 ends_within low high (c ∷ cs) h = let k = ends_within c.end high cs h.2 in (omega (arith, h.0, h.1, k.0), k.1)
 
-pub front_within : (n low high : ℕ) (c : Character) (cs : List Character) → 0 < n → Stand low high (c ∷ cs) → (start_of 0 (take n (c ∷ cs)) ≤ end_of 0 (take n (c ∷ cs))) × (end_of 0 (take n (c ∷ cs)) ≤ high)
-front_within zero low high c cs some h = absurd (omega arith)
-front_within (suc n) low high c cs some h = let k = ends_within c.end high (take n cs) (stand_take n c.end high cs h.2) in (omega (arith, h.1, k.0), k.1)
+pub front_within : (low high : ℕ) (front : List Character) → 0 < length front → Stand low high front → (start_of 0 front ≤ end_of 0 front) × (end_of 0 front ≤ high)
+front_within low high [] some h = absurd (omega arith)
+front_within low high (c ∷ cs) some h = let k = ends_within c.end high cs h.2 in (omega (arith, h.1, k.0), k.1)
 
-token_inside : (file n high : ℕ) (names texts names1 texts1 : List (List ℕ)) (k : Cut) (front : List Character) (t : Token) → Gives file names texts k front t names1 texts1 →
+token_inside : (file high : ℕ) (names texts names1 texts1 : List (List ℕ)) (e : Element) (front : List Character) (t : Token) → Gives file names texts e front t names1 texts1 →
     (start_of 0 front ≤ end_of 0 front) × (end_of 0 front ≤ high) → IsInside file high t
 unfolding token
-token_inside file n high names texts names1 texts1 _ front _ (Gives.word found) h = (refl, h.0, h.1)
-token_inside file n high names texts names1 texts1 _ front _ Gives.symbol h = (refl, h.0, h.1)
-token_inside file n high names texts names1 texts1 _ front _ Gives.number h = (refl, h.0, h.1)
-token_inside file n high names texts names1 texts1 _ front _ (Gives.char quote means) h = (refl, h.0, h.1)
-token_inside file n high names texts names1 texts1 _ front _ (Gives.text quote means) h = (refl, h.0, h.1)
+token_inside file high names texts names1 texts1 _ front _ (Gives.word found) h = (refl, h.0, h.1)
+token_inside file high names texts names1 texts1 _ front _ Gives.sign h = (refl, h.0, h.1)
+token_inside file high names texts names1 texts1 _ front _ Gives.integer h = (refl, h.0, h.1)
+token_inside file high names texts names1 texts1 _ front _ Gives.char_literal h = (refl, h.0, h.1)
+token_inside file high names texts names1 texts1 _ front _ Gives.text_literal h = (refl, h.0, h.1)
 
-lexed_inside : (file file_end low high : ℕ) (names texts names1 texts1 : List (List ℕ)) (text : List Character) (out : List Token) → Lexes file file_end names texts text out names1 texts1 → Stand low high text →
-    All (IsInside file high) out
-lexed_inside file file_end low high _ _ _ _ _ _ Lexes.at_end h = All-nil (IsInside file high)
-lexed_inside file file_end low high _ _ _ _ _ _ (Lexes.skips {c = c} {cs = cs} {n = n} is rest) h = lexed_inside file file_end low high _ _ _ _ _ _ rest (stand_drop n low high (c ∷ cs) h)
-lexed_inside file file_end low high _ _ _ _ _ _ (Lexes.gives {c = c} {cs = cs} {n = n} is given rest) h =
-    let grows : 0 < n = subst (λ o. IfSome o (λ m. 0 < m)) is (cut_grows file_end c cs).some in
-    All-cons (IsInside file high) _ _ (token_inside file n high _ _ _ _ _ _ _ given (front_within n low high c cs grows h)) (lexed_inside file file_end low high _ _ _ _ _ _ rest (stand_drop n low high (c ∷ cs) h))
+-- an element of a text that stands in a file stands there, and so does what is behind it
+pub next_stands : (low high : ℕ) (text : List Character) (e : Element) (front behind : List Character) → IsNext text e front behind → Stand low high text →
+    Stand low high front × Stand low high behind
+next_stands low high text e front behind next h =
+    let whole : Stand low high (front ++ behind) = subst (Stand low high) next.parts h in (stand_front low high front behind whole, stand_behind low high front behind whole)
+
+lexed_inside : (file low high : ℕ) (names texts names1 texts1 : List (List ℕ)) (text : List Character) (out : List Token) → Lexes file names texts text out names1 texts1 →
+    Stand low high text → All (IsInside file high) out
+lexed_inside file low high _ _ _ _ _ _ Lexes.at_end h = All-nil (IsInside file high)
+lexed_inside file low high _ _ _ _ text _ (Lexes.blank {front = f} {behind = b} next rest) h =
+    lexed_inside file low high _ _ _ _ _ _ rest (next_stands low high text Element.Blank f b next h).1
+lexed_inside file low high _ _ _ _ text _ (Lexes.token {front = f} {behind = b} {e = e} next given rest) h =
+    let stands = next_stands low high text e f b next h in
+    All-cons (IsInside file high) _ _ (token_inside file high _ _ _ _ _ _ _ given (front_within low high f (next_some text e f b next) stands.0))
+    (lexed_inside file low high _ _ _ _ _ _ rest stands.1)
 
 pub tokens_inside : (file : ℕ) (bytes : List ℕ) (list : List Token) (names texts : List (List ℕ)) → HasTokens file bytes list names texts → All (IsInside file (length bytes)) list
 tokens_inside file bytes list names texts h =
-    let front = lexed_inside file (length bytes) 0 (length bytes) _ _ _ _ _ _ h.lexed (decoded_stand bytes h.characters h.decoded) in
+    let front = lexed_inside file 0 (length bytes) _ _ _ _ _ _ h.lexed (decoded_stand bytes h.characters h.decoded) in
     let last : IsInside file (length bytes) (end_token file (length bytes)) = (refl, omega arith, omega arith) in
     let P : List Token → Type 0 = λ out. All (IsInside file (length bytes)) out in
     subst P (sym h.ended) (All-append (IsInside file (length bytes)) h.list (end_token file (length bytes) ∷ []) front (All-cons (IsInside file (length bytes)) (end_token file (length bytes)) [] last (All-nil (IsInside file (length bytes)))))

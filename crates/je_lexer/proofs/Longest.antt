@@ -1,14 +1,15 @@
 -- The sign at the front of a text is the longest, and the characters of a run are all of its kind.
-use Rattle.std.proofs.Common.{◌≡◌, ℕ, suc, ◌≤◌, Bool, true, false, not, ◌&&◌, nat_lt, List, [], ◌∷◌, length, take, Option, Some, None, if◌then◌else◌, All, refl, subst, arith}
+use Rattle.std.proofs.Common.{◌≡◌, ℕ, suc, ◌≤◌, Bool, true, false, not, ◌&&◌, ◌==◌, nat_lt, List, [], ◌∷◌, length, take, Option, Some, None, if◌then◌else◌, All, refl, subst, arith}
 use Rattle.std.specs.Option.{IfSome}
+use Rattle.std.proofs.lemmas.Bool.{and_parts}
 use Rattle.std.proofs.lemmas.Bool.Decides.{nat_tests}
 use Rattle.std.proofs.lemmas.List.Elements.{All-nil, All-cons}
 use Rattle.je_decode.specs.declared.character.Character.{Character}
 use Rattle.je_token.specs.Texts.{symbol_text}
 use Rattle.je_token.specs.declared.symbol.Symbol.{Symbol}
 use Rattle.je_lexer.specs.Classes.{is_space, ends_line, continues_name}
-use Rattle.je_lexer.specs.Runs.{name_run, space_run, line_run}
-use Rattle.je_lexer.specs.Words.{fits, symbol_len, longer, longest, all_symbols, symbol_at}
+use Rattle.je_lexer.specs.way.Runs.{name_run, space_run, line_run}
+use Rattle.je_lexer.specs.way.Symbols.{fits, symbol_len, longer, longest, all_symbols, symbol_at}
 
 module _ (text : List Character) where
   abbrev Fits : Symbol → Type 0
@@ -64,6 +65,14 @@ module _ (passes : ℕ → Bool) (run : List Character → ℕ) (none : run [] �
       by true e h = All-cons (λ d. passes d.code ≡ true) c (take (run cs) cs) e h
       by false e h = All-nil (λ d. passes d.code ≡ true)
 
+  run_fits : (text : List Character) → run text ≤ length text
+  run_fits [] = rw none (omega arith)
+  run_fits (c ∷ cs) = rw (some c cs) (by (passes c.code) (run_fits cs))
+    where
+      by : (b : Bool) → run cs ≤ length cs → (if b then suc (run cs) else 0) ≤ length (c ∷ cs)
+      by true h = omega arith
+      by false h = omega arith
+
 pub names_pass : (text : List Character) → All (λ c. continues_name c.code ≡ true) (take (name_run text) text)
 names_pass = run_passes continues_name name_run refl (λ c cs. refl)
 
@@ -79,3 +88,17 @@ line_cons c cs = by (ends_line c.code)
 
 pub lines_pass : (text : List Character) → All (λ c. not (ends_line c.code) ≡ true) (take (line_run text) text)
 lines_pass = run_passes (λ code. not (ends_line code)) line_run refl line_cons
+
+pub names_fit : (text : List Character) → name_run text ≤ length text
+names_fit = run_fits continues_name name_run refl (λ c cs. refl)
+
+pub spaces_fit : (text : List Character) → space_run text ≤ length text
+spaces_fit = run_fits is_space space_run refl (λ c cs. refl)
+
+pub lines_fit : (text : List Character) → line_run text ≤ length text
+lines_fit = run_fits (λ code. not (ends_line code)) line_run refl line_cons
+
+pub sign_fits : (codes : List ℕ) (text : List Character) → fits codes text ≡ true → length codes ≤ length text
+sign_fits [] text e = omega arith
+sign_fits (b ∷ bs) [] e = absurd (cc)
+sign_fits (b ∷ bs) (c ∷ cs) e = let rest = sign_fits bs cs (and_parts (c.code == b) _ e).1 in omega arith

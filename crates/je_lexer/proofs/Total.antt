@@ -1,9 +1,8 @@
 -- Bytes have tokens or a fault.
-use Rattle.std.proofs.Common.{◌≡◌, ◌⊎◌, ℕ, zero, suc, ◌+◌, ◌-◌, ◌*◌, ◌<◌, ◌≤◌, Bool, true, false, ◌&&◌, ◌||◌, ◌==◌, nat_lt, nat_le, List, [], ◌∷◌, ◌++◌, length, take, drop, Option, Some, None, option_map, if◌then◌else◌, IsUtf8, chars, refl, sym, ap, subst, ◌∙◌, arith, inl, inr, ⊎_elim, true≢false, length-drop, take_all}
+use Rattle.std.proofs.Common.{◌≡◌, ◌⊎◌, ℕ, zero, suc, ◌+◌, ◌-◌, ◌*◌, ◌<◌, ◌≤◌, Bool, true, false, ◌==◌, nat_lt, nat_le, List, [], ◌∷◌, ◌++◌, length, take, Option, Some, None, option_map, if◌then◌else◌, IsUtf8, chars, refl, sym, ap, subst, ◌∙◌, arith, inl, inr, ⊎_elim, true≢false, take_all}
 use Rattle.std.specs.Option.{IfSome}
 use Rattle.std.specs.Char.{digit_value}
 use Rattle.std.specs.Str.{IsValidUpTo, is_utf8}
-use Rattle.std.proofs.lemmas.Bool.{and_parts}
 use Rattle.std.proofs.lemmas.Bool.Decides.{nat_tests}
 use Rattle.std.proofs.lemmas.Str.{IsUtf8-from_is_utf8, is_utf8-from_IsUtf8}
 use Rattle.je_base.proofs.Numbering.{number-push}
@@ -13,23 +12,18 @@ use Rattle.je_decode.specs.Decoding.{Decodes, without_mark}
 use Rattle.je_decode.specs.Escapes.{Escape, Piece, is_hexadecimal, is_high, behind_marks, one_digit, and_digit, escape, opens, if_low, is_low, low_half, with_low, paired, piece, turns, Translates, Malformed}
 use Rattle.je_decode.specs.Places.{placed}
 use Rattle.je_decode.specs.declared.character.Character.{Character}
-use Rattle.je_token.specs.Texts.{symbol_text}
-use Rattle.je_token.specs.declared.symbol.Symbol.{Symbol}
 use Rattle.je_token.specs.declared.token.Token.{Token}
-use Rattle.je_lexer.specs.Classes.{is_space, starts_name, is_digit_below, begins_with, begins_with_digit, tail}
-use Rattle.je_lexer.specs.Cutting.{cut_at, cut_len, number_cut, literal_cut, comment_cut, bad_number, if_number, if_symbol}
-use Rattle.je_lexer.specs.Lexing.{Lexes, Fails, front_of, end_token, HasTokens, HasFault}
-use Rattle.je_lexer.specs.Numbers.{number_before}
-use Rattle.je_lexer.specs.Runs.{space_run, name_run, line_run, comment_run, literal_run}
+use Rattle.je_lexer.specs.Classes.{begins_with}
+use Rattle.je_lexer.specs.Elements.{Element, IsNext, BeginsNone, body}
+use Rattle.je_lexer.specs.Faults.{IsWrong}
+use Rattle.je_lexer.specs.Lexing.{Lexes, Fails, end_token, HasTokens, HasFault}
 use Rattle.je_lexer.specs.Texts.{TextPiece, units_of, one_unit, is_octal, simple_escape, and_octal, and_octals, with_rest, escape_piece, text_piece, Means, HasBadBackslash}
-use Rattle.je_lexer.specs.Tokens.{Gives, IsFault, body, spelled}
-use Rattle.je_lexer.specs.Words.{fits, symbol_len, longer, longest, all_symbols, symbol_at}
+use Rattle.je_lexer.specs.Tokens.{Gives, spelled}
 use Rattle.je_lexer.specs.declared.cutting.Cut.{Cut}
 use Rattle.je_lexer.specs.declared.cutting.Cut.TheVariants as cut
 use Rattle.je_lexer.specs.declared.fault.FaultKind.{FaultKind}
-use Rattle.je_lexer.specs.declared.numbers.Number.{Number}
-
--- ---- escapes
+use Rattle.je_lexer.specs.way.Cutting.{cut_at, cut_len, front_of, IsOf, IsBad}
+use Rattle.je_lexer.proofs.Next.{next_from_cut, none_from_cut, wrong_from_cut, next_shorter, element_some}
 
 -- what is found ends inside the text
 abbrev Ends : Option Escape → ℕ → Type 0
@@ -169,66 +163,61 @@ meant (suc n) (c ∷ cs) l = by (meant n) (text_piece c cs) refl (text_piece_end
     by shorter None e ends = inr (c, HasBadBackslash.here e)
     by shorter (Some p) e ends = ⊎_elim (λ h. inl (p.units ++ h.0, Means.more e h.1)) (λ h. inr (h.0, HasBadBackslash.later e h.1)) (shorter p.rest (omega arith))
 
--- ---- pieces
+-- ---- elements
 
-longer_some : (best : Option Symbol) (s : Symbol) (text : List Character) → IfSome best (λ s. 0 < length (symbol_text s)) → IfSome (longer best s text) (λ s. 0 < length (symbol_text s))
-unfolding longer
-longer_some best s text h = by (fits (symbol_text s) text && nat_lt (symbol_len best) (length (symbol_text s))) refl
+-- what is cut is an element or none
+data Found (k : Cut) (text : List Character) : Type 0 where
+  Good : {n : ℕ} {e : Element} → cut_len k ≡ Some n → IsOf k (take n text) e → Found k text
+  Bad : {kind : FaultKind} {start end : ℕ} → IsBad k (front_of (cut_len k) text) kind start end → Found k text
+
+char_found : (n : ℕ) (text : List Character) (units : List ℕ) → begins_with 39 (take n text) ≡ true → Means (body (take n text)) units → Found (cut.Literal n) text
+char_found n text [] quote means = Found.Bad (IsBad.no_unit quote means (λ one. absurd (omega arith)))
+char_found n text (u ∷ []) quote means = Found.Good refl (IsOf.char_literal quote means)
+char_found n text (u ∷ v ∷ us) quote means = Found.Bad (IsBad.no_unit quote means (λ one. absurd (omega arith)))
+
+literal_found : (n : ℕ) (text : List Character) → ((units : List ℕ) × Means (body (take n text)) units) ⊎ ((bad : Character) × HasBadBackslash (body (take n text)) bad) →
+    Found (cut.Literal n) text
+literal_found n text (inr h) = Found.Bad (IsBad.bad_escape h.1)
+literal_found n text (inl h) = by (begins_with 39 (take n text)) refl
   where
-    by : (b : Bool) → (fits (symbol_text s) text && nat_lt (symbol_len best) (length (symbol_text s))) ≡ b → IfSome (if b then Some s else best) (λ s. 0 < length (symbol_text s))
-    by true e = let p = (and_parts (fits (symbol_text s) text) _ e).1 in grind (arith, nat_tests)
-    by false e = h
+    by : (b : Bool) → begins_with 39 (take n text) ≡ b → Found (cut.Literal n) text
+    by true e = char_found n text h.0 e h.1
+    by false e = Found.Good refl (IsOf.text_literal e h.1)
 
-longest_some : (best : Option Symbol) (symbols : List Symbol) (text : List Character) → IfSome best (λ s. 0 < length (symbol_text s)) → IfSome (longest best symbols text) (λ s. 0 < length (symbol_text s))
-longest_some best [] text h = h
-longest_some best (s ∷ more) text h = longest_some (longer best s text) more text (longer_some best s text h)
+found_cut : (k : Cut) (text : List Character) → Found k text
+found_cut (cut.Blank n) text = Found.Good refl IsOf.blank
+found_cut (cut.Word n) text = Found.Good refl IsOf.word
+found_cut (cut.Symbol s n) text = Found.Good refl IsOf.sign
+found_cut (cut.Number i n) text = Found.Good refl IsOf.integer
+found_cut (cut.Literal n) text = literal_found n text (meant (suc (length (body (take n text)))) (body (take n text)) (omega arith))
+found_cut (cut.Fault kind start end) text = Found.Bad IsBad.uncut
 
--- a piece has some characters
-pub record Grows (k : Cut) : Type 0 where
-  pub some : IfSome (cut_len k) (λ n. 0 < n)
+-- the next element of a text, or what stands there instead
+data Front (file_end : ℕ) (text : List Character) : Type 0 where
+  Begun : {e : Element} {front behind : List Character} → IsNext text e front behind → Front file_end text
+  Wrong : {kind : FaultKind} {start end : ℕ} → BeginsNone text → IsWrong file_end text kind start end → Front file_end text
 
-either : (b : Bool) (j k : Cut) → Grows j → Grows k → Grows (if b then j else k)
-either true j k f g = f
-either false j k f g = g
+front_at : (file_end : ℕ) (c : Character) (cs : List Character) → Found (cut_at file_end c cs) (c ∷ cs) → Front file_end (c ∷ cs)
+front_at file_end c cs (Found.Good {n = n} {e = e} len of) = Front.Begun (next_from_cut file_end c cs n e len of)
+front_at file_end c cs (Found.Bad {kind = kind} {start = start} {end = end} bad) =
+    Front.Wrong (none_from_cut file_end c cs kind start end bad) (wrong_from_cut file_end c cs kind start end bad)
 
-blank_grows : (n : ℕ) → Grows (cut.Blank (suc n))
-blank_grows n = record { some = omega arith }
+front : (file_end : ℕ) (c : Character) (cs : List Character) → Front file_end (c ∷ cs)
+front file_end c cs = front_at file_end c cs (found_cut (cut_at file_end c cs) (c ∷ cs))
 
-fault_grows : (kind : FaultKind) (start end : ℕ) → Grows (cut.Fault kind start end)
-fault_grows kind start end = record { some = tt }
-
-bad_number_grows : (c : Character) (cs : List Character) → Grows (bad_number c cs)
-unfolding bad_number
-bad_number_grows c cs = fault_grows _ _ _
-
-number_grows : (c : Character) (cs : List Character) → Grows (number_cut c cs)
-unfolding number_cut
-number_grows c cs = by (number_before (drop (name_run cs) cs) (take (suc (name_run cs)) (c ∷ cs)))
+pub next_or_none : (text : List Character) → ((e : Element) × (front : List Character) × (behind : List Character) × IsNext text e front behind) ⊎ BeginsNone text
+next_or_none [] = inr nothing
   where
-    by : (o : Option Number) → Grows (if_number (bad_number c cs) o (suc (name_run cs)))
-    by None = bad_number_grows c cs
-    by (Some n) = record { some = omega arith }
+    nothing : BeginsNone []
+    nothing e [] behind parts h = let some = element_some e [] behind h in absurd (omega arith)
+    nothing e (c ∷ cs) behind parts h = absurd (cc)
+next_or_none (c ∷ cs) = by (front 0 c cs)
+  where
+    by : Front 0 (c ∷ cs) → ((e : Element) × (ahead : List Character) × (behind : List Character) × IsNext (c ∷ cs) e ahead behind) ⊎ BeginsNone (c ∷ cs)
+    by (Front.Begun {e = e} {front = ahead} {behind = behind} h) = inl (e, ahead, behind, h)
+    by (Front.Wrong none wrong) = inr none
 
-literal_grows : (file_end : ℕ) (c : Character) (cs : List Character) → Grows (literal_cut file_end c cs)
-unfolding literal_cut
-literal_grows file_end c cs = let n = literal_run c.code false cs in let some : Grows (cut.Literal (n + 2)) = record { some = omega arith } in either _ _ _ some (fault_grows _ _ _)
-
-comment_grows : (file_end : ℕ) (c : Character) (cs : List Character) → Grows (comment_cut file_end c cs)
-unfolding comment_cut
-comment_grows file_end c cs = let some : Grows (cut.Blank (comment_run cs + 4)) = record { some = omega arith } in either _ _ _ some (fault_grows _ _ _)
-
-symbol_grows : (c : Character) (o : Option Symbol) → IfSome o (λ s. 0 < length (symbol_text s)) → Grows (if_symbol c o)
-symbol_grows c None h = fault_grows _ _ _
-symbol_grows c (Some s) h = record { some = h }
-
-pub cut_grows : (file_end : ℕ) (c : Character) (cs : List Character) → Grows (cut_at file_end c cs)
-unfolding cut_at symbol_at
-cut_grows file_end c cs =
-    let word : Grows (cut.Word (suc (name_run cs))) = record { some = omega arith } in
-    let symbol = symbol_grows c (longest None all_symbols (c ∷ cs)) (longest_some None all_symbols (c ∷ cs) tt) in
-    either (is_space c.code) _ _ (blank_grows (space_run cs)) (either (starts_name c.code) _ _ word (either (is_digit_below 10 c.code) _ _ (number_grows c cs)
-    (either ((c.code == 46) && begins_with_digit 10 cs) _ _ (bad_number_grows c cs) (either ((c.code == 34) || (c.code == 39)) _ _ (literal_grows file_end c cs)
-    (either ((c.code == 47) && begins_with 47 cs) _ _ (blank_grows (line_run cs)) (either ((c.code == 47) && begins_with 42 cs) _ _ (comment_grows file_end c (tail cs)) symbol))))))
+-- ---- tokens
 
 found : (names : List (List ℕ)) (text : List ℕ) → (id : NameId) × (number_of (interned names text) text ≡ Some id)
 found names text = by (place_of names text) refl
@@ -237,60 +226,47 @@ found names text = by (place_of names text) refl
     by None e = (name_at (length names), number-push names text e)
     by (Some n) e = (name_at n, ap (option_map name_at) e)
 
--- What stands at the front of a text: nothing that counts, a token, or a fault.
-data Front (file : ℕ) (names texts : List (List ℕ)) (k : Cut) (text : List Character) : Type 0 where
-  blank : {n : ℕ} → k ≡ cut.Blank n → Front file names texts k text
-  token : {n : ℕ} {t : Token} {names1 texts1 : List (List ℕ)} → cut_len k ≡ Some n → Gives file names texts k (take n text) t names1 texts1 → Front file names texts k text
-  fault : {kind : FaultKind} {start end : ℕ} → IsFault k (front_of (cut_len k) text) kind start end → Front file names texts k text
+abbrev IsGiven : ℕ → List (List ℕ) → List (List ℕ) → Element → List Character → Type 0
+IsGiven file names texts e front = (t : Token) × (names1 : List (List ℕ)) × (texts1 : List (List ℕ)) × Gives file names texts e front t names1 texts1
 
-char_front : (file n : ℕ) (names texts : List (List ℕ)) (text : List Character) (units : List ℕ) → begins_with 39 (take n text) ≡ true → Means (body (take n text)) units → Front file names texts (cut.Literal n) text
-char_front file n names texts text [] quote means = Front.fault (IsFault.no_unit quote means (λ one. absurd (omega arith)))
-char_front file n names texts text (u ∷ []) quote means = Front.token refl (Gives.char quote means)
-char_front file n names texts text (u ∷ v ∷ us) quote means = Front.fault (IsFault.no_unit quote means (λ one. absurd (omega arith)))
-
-literal_front : (file n : ℕ) (names texts : List (List ℕ)) (text : List Character) → ((units : List ℕ) × Means (body (take n text)) units) ⊎ ((bad : Character) × HasBadBackslash (body (take n text)) bad) →
-    Front file names texts (cut.Literal n) text
-literal_front file n names texts text (inr h) = Front.fault (IsFault.bad_escape h.1)
-literal_front file n names texts text (inl h) = by (begins_with 39 (take n text)) refl
-  where
-    by : (b : Bool) → begins_with 39 (take n text) ≡ b → Front file names texts (cut.Literal n) text
-    by true e = char_front file n names texts text h.0 e h.1
-    by false e = Front.token refl (Gives.text e h.1)
-
-front : (file : ℕ) (names texts : List (List ℕ)) (k : Cut) (text : List Character) → Front file names texts k text
-front file names texts (cut.Blank n) text = Front.blank refl
-front file names texts (cut.Word n) text = Front.token refl (Gives.word (found names (spelled (take n text))).1)
-front file names texts (cut.Symbol s n) text = Front.token refl Gives.symbol
-front file names texts (cut.Number i n) text = Front.token refl Gives.number
-front file names texts (cut.Literal n) text = literal_front file n names texts text (meant (suc (length (body (take n text)))) (body (take n text)) (omega arith))
-front file names texts (cut.Fault kind start end) text = Front.fault IsFault.uncut
+-- an element is blank or a token
+given : (file : ℕ) (names texts : List (List ℕ)) (e : Element) (front : List Character) → (e ≡ Element.Blank) ⊎ IsGiven file names texts e front
+given file names texts Element.Blank front = inl refl
+given file names texts Element.Word front = inr (_, _, _, Gives.word (found names (spelled front)).1)
+given file names texts (Element.Sign s) front = inr (_, _, _, Gives.sign)
+given file names texts (Element.Integer i) front = inr (_, _, _, Gives.integer)
+given file names texts (Element.Char unit) front = inr (_, _, _, Gives.char_literal)
+given file names texts (Element.Text units) front = inr (_, _, _, Gives.text_literal)
 
 -- ---- the whole
 
-abbrev AreTokens : ℕ → ℕ → List (List ℕ) → List (List ℕ) → List Character → Type 0
-AreTokens file file_end names texts text = (out : List Token) × (names1 : List (List ℕ)) × (texts1 : List (List ℕ)) × Lexes file file_end names texts text out names1 texts1
+abbrev AreTokens : ℕ → List (List ℕ) → List (List ℕ) → List Character → Type 0
+AreTokens file names texts text = (out : List Token) × (names1 : List (List ℕ)) × (texts1 : List (List ℕ)) × Lexes file names texts text out names1 texts1
 
-abbrev AreFaulty : ℕ → ℕ → List Character → Type 0
-AreFaulty file file_end text = (kind : FaultKind) × (start : ℕ) × (end : ℕ) × Fails file file_end text kind start end
+abbrev AreFaulty : ℕ → List Character → Type 0
+AreFaulty file_end text = (kind : FaultKind) × (start : ℕ) × (end : ℕ) × Fails file_end text kind start end
 
-less : (n m : ℕ) (o : Option ℕ) (c : Character) (cs : List Character) → IfSome o (λ m. 0 < m) → o ≡ Some m → length (c ∷ cs) < suc n → length (drop m (c ∷ cs)) < n
-less n m o c cs grows is l = let some : 0 < m = rw is at grows in let left = length-drop m (c ∷ cs) in omega arith
-
-lexed : (n file file_end : ℕ) (names texts : List (List ℕ)) (text : List Character) → length text < n → AreTokens file file_end names texts text ⊎ AreFaulty file file_end text
+lexed : (n file file_end : ℕ) (names texts : List (List ℕ)) (text : List Character) → length text < n → AreTokens file names texts text ⊎ AreFaulty file_end text
 lexed zero file file_end names texts text l = absurd (omega arith)
 lexed (suc n) file file_end names texts [] l = inl ([], names, texts, Lexes.at_end)
-lexed (suc n) file file_end names texts (c ∷ cs) l = by (lexed n file file_end) (front file names texts (cut_at file_end c cs) (c ∷ cs))
+lexed (suc n) file file_end names texts (c ∷ cs) l = by (lexed n file file_end) (front file_end c cs)
   where
-    short : (m : ℕ) → cut_len (cut_at file_end c cs) ≡ Some m → length (drop m (c ∷ cs)) < n
-    short m is = less n m (cut_len (cut_at file_end c cs)) c cs (cut_grows file_end c cs).some is l
+    Shorter : Type 0
+    Shorter = (names texts : List (List ℕ)) (text : List Character) → length text < n → AreTokens file names texts text ⊎ AreFaulty file_end text
 
-    by : ((names texts : List (List ℕ)) (text : List Character) → length text < n → AreTokens file file_end names texts text ⊎ AreFaulty file file_end text) → Front file names texts (cut_at file_end c cs) (c ∷ cs) → AreTokens file file_end names texts (c ∷ cs) ⊎ AreFaulty file file_end (c ∷ cs)
-    by shorter (Front.blank {n = m} is) =
-        ⊎_elim (λ h. inl (h.0, h.1, h.2, Lexes.skips is h.3)) (λ h. inr (h.0, h.1, h.2, Fails.behind_blank is h.3)) (shorter names texts (drop m (c ∷ cs)) (short m (ap cut_len is)))
-    by shorter (Front.token {n = m} {t = t} {names1 = names1} {texts1 = texts1} is given) =
-        ⊎_elim (λ h. inl (t ∷ h.0, h.1, h.2, Lexes.gives is given h.3)) (λ h. inr (h.0, h.1, h.2, Fails.behind_token is given h.3))
-        (shorter names1 texts1 (drop m (c ∷ cs)) (short m is))
-    by shorter (Front.fault {kind = kind} {start = start} {end = end} is) = inr (kind, start, end, Fails.here is)
+    going : Shorter → (e : Element) (ahead behind : List Character) → IsNext (c ∷ cs) e ahead behind → (e ≡ Element.Blank) ⊎ IsGiven file names texts e ahead →
+        AreTokens file names texts (c ∷ cs) ⊎ AreFaulty file_end (c ∷ cs)
+    going shorter e ahead behind next (inl is) =
+        let less = next_shorter (c ∷ cs) e ahead behind next in
+        let blank : IsNext (c ∷ cs) Element.Blank ahead behind = rw is at next in
+        ⊎_elim (λ h. inl (h.0, h.1, h.2, Lexes.blank blank h.3)) (λ h. inr (h.0, h.1, h.2, Fails.later next h.3)) (shorter names texts behind (omega arith))
+    going shorter e ahead behind next (inr h) =
+        let less = next_shorter (c ∷ cs) e ahead behind next in
+        ⊎_elim (λ k. inl (h.0 ∷ k.0, k.1, k.2, Lexes.token next h.3 k.3)) (λ k. inr (k.0, k.1, k.2, Fails.later next k.3)) (shorter h.1 h.2 behind (omega arith))
+
+    by : Shorter → Front file_end (c ∷ cs) → AreTokens file names texts (c ∷ cs) ⊎ AreFaulty file_end (c ∷ cs)
+    by shorter (Front.Begun {e = e} {front = ahead} {behind = behind} next) = going shorter e ahead behind next (given file names texts e ahead)
+    by shorter (Front.Wrong {kind = kind} {start = start} {end = end} none wrong) = inr (kind, start, end, Fails.here none wrong)
 
 -- bytes are UTF-8, or stop being it at some byte
 valid : (bs : List ℕ) (k : ℕ) → k < length bs → ((m : ℕ) → k < m → IsUtf8 (take m bs) → ⊥) → (at : ℕ) × IsValidUpTo bs at
@@ -321,19 +297,24 @@ utf8 bs = by (is_utf8 bs) refl
 abbrev pub IsLexed : ℕ → List ℕ → Type 0
 IsLexed file bytes = (list : List Token) × (names : List (List ℕ)) × (texts : List (List ℕ)) × HasTokens file bytes list names texts
 
-abbrev pub IsFaulty : ℕ → List ℕ → Type 0
-IsFaulty file bytes = (kind : FaultKind) × (start : ℕ) × (end : ℕ) × HasFault file bytes kind start end
+abbrev pub IsFaulty : List ℕ → Type 0
+IsFaulty bytes = (kind : FaultKind) × (start : ℕ) × (end : ℕ) × HasFault bytes kind start end
 
-of_text : (file : ℕ) (bytes : List ℕ) (characters : List Character) → Decodes bytes characters → AreTokens file (length bytes) ([] ∷ []) [] characters ⊎ AreFaulty file (length bytes) characters → IsLexed file bytes ⊎ IsFaulty file bytes
+of_text : (file : ℕ) (bytes : List ℕ) (characters : List Character) → Decodes bytes characters →
+    AreTokens file ([] ∷ []) [] characters ⊎ AreFaulty (length bytes) characters → IsLexed file bytes ⊎ IsFaulty bytes
 of_text file bytes characters decoded (inl h) =
     inl (h.0 ++ end_token file (length bytes) ∷ [], h.1, h.2, record { characters = characters; decoded = decoded; list = h.0; lexed = h.3; ended = refl })
-of_text file bytes characters decoded (inr h) = inr (h.0, h.1, h.2, HasFault.uncut characters decoded h.3)
+of_text file bytes characters decoded (inr h) = inr (h.0, h.1, h.2, HasFault.no_element characters decoded h.3)
 
-of_characters : (file : ℕ) (bytes : List ℕ) → IsUtf8 bytes → ((ds : List Character) × Translates false (placed 0 (chars bytes)) ds) ⊎ ((bad : Character) × Malformed false (placed 0 (chars bytes)) bad) → IsLexed file bytes ⊎ IsFaulty file bytes
+of_characters : (file : ℕ) (bytes : List ℕ) → IsUtf8 bytes →
+    ((ds : List Character) × Translates false (placed 0 (chars bytes)) ds) ⊎ ((bad : Character) × Malformed false (placed 0 (chars bytes)) bad) →
+    IsLexed file bytes ⊎ IsFaulty bytes
 of_characters file bytes well (inl h) =
-    of_text file bytes (without_mark h.0) (record { utf8 = well; text = h.0; translates = h.1; kept = refl }) (lexed (suc (length (without_mark h.0))) file (length bytes) ([] ∷ []) [] (without_mark h.0) (omega arith))
+    of_text file bytes (without_mark h.0) (record { utf8 = well; text = h.0; translates = h.1; kept = refl })
+    (lexed (suc (length (without_mark h.0))) file (length bytes) ([] ∷ []) [] (without_mark h.0) (omega arith))
 of_characters file bytes well (inr h) = inr (_, _, _, HasFault.malformed (record { utf8 = well; malformed = h.1 }))
 
-pub total : (file : ℕ) (bytes : List ℕ) → IsLexed file bytes ⊎ IsFaulty file bytes
+pub total : (file : ℕ) (bytes : List ℕ) → IsLexed file bytes ⊎ IsFaulty bytes
 total file bytes =
-    ⊎_elim (λ well. of_characters file bytes well (translated (suc (length (placed 0 (chars bytes)))) false (placed 0 (chars bytes)) (omega arith))) (λ h. inr (_, _, _, HasFault.not_utf8 h.1)) (utf8 bytes)
+    ⊎_elim (λ well. of_characters file bytes well (translated (suc (length (placed 0 (chars bytes)))) false (placed 0 (chars bytes)) (omega arith)))
+    (λ h. inr (_, _, _, HasFault.not_utf8 h.1)) (utf8 bytes)

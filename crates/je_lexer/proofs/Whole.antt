@@ -1,5 +1,5 @@
 -- Of a file's tokens the last alone is of kind End, and their numbers are places in the names and texts.
-use Rattle.std.proofs.Common.{◌≡◌, ℕ, ◌<◌, ◌≤◌, Bool, true, false, List, [], ◌∷◌, length, Option, Some, None, if◌then◌else◌, All, refl, arith, length-append, drop}
+use Rattle.std.proofs.Common.{◌≡◌, ℕ, ◌<◌, ◌≤◌, Bool, true, false, List, [], ◌∷◌, length, Option, Some, None, if◌then◌else◌, All, refl, arith, length-append}
 use Rattle.std.proofs.lemmas.List.Elements.{All-nil, All-cons, All-append}
 use Rattle.std.proofs.lemmas.Option.{slice_get_within}
 use Rattle.je_base.proofs.Numbering.{number-text}
@@ -9,10 +9,10 @@ use Rattle.je_token.specs.declared.keyword.Keyword.{Keyword}
 use Rattle.je_token.specs.declared.token.Token.{Token}
 use Rattle.je_token.specs.declared.token.TokenKind.{TokenKind}
 use Rattle.je_token.specs.declared.token.TokenKind.TheVariants as kind
+use Rattle.je_lexer.specs.Elements.{Element}
 use Rattle.je_lexer.specs.Lexing.{Lexes, HasTokens, HasText, AreWhole, end_token}
 use Rattle.je_lexer.specs.Tokens.{Gives, token, keyword_kind, word_kind, number_kind, spelled}
 use Rattle.je_lexer.specs.Words.{keyword_of}
-use Rattle.je_lexer.specs.declared.cutting.Cut.{Cut}
 use Rattle.je_lexer.specs.declared.numbers.Number.{Number}
 
 -- neither of kind End nor a string literal
@@ -54,7 +54,7 @@ other_part : (names texts : List (List ℕ)) (t : Token) → IsOther t.kind → 
 other_part names texts t other some none =
     record { names_kept = omega arith; texts_kept = omega arith; unended = other.no_end; named = omega arith; texted = λ e. absurd (other.no_text e) }
 
-part : (file : ℕ) (names texts names1 texts1 : List (List ℕ)) (k : Cut) (front : List Character) (t : Token) → 0 < length names → Gives file names texts k front t names1 texts1 →
+part : (file : ℕ) (names texts names1 texts1 : List (List ℕ)) (e : Element) (front : List Character) (t : Token) → 0 < length names → Gives file names texts e front t names1 texts1 →
     IsPart names texts names1 texts1 t
 unfolding token
 part file names texts names1 texts1 _ front _ some (Gives.word {id = id} found) =
@@ -66,12 +66,12 @@ part file names texts names1 texts1 _ front _ some (Gives.word {id = id} found) 
       named = slice_get_within (interned names text) id.0 text (number-text (interned names text) text id found);
       texted = λ e. absurd (other.no_text e);
     }
-part file names texts names1 texts1 _ front t some Gives.symbol =
+part file names texts names1 texts1 _ front t some Gives.sign =
     other_part names texts t (record { no_end = λ e. absurd (cc); no_text = λ e. absurd (cc) }) some refl
-part file names texts names1 texts1 _ front t some (Gives.number {i = i}) = other_part names texts t (number_other i) some refl
-part file names texts names1 texts1 _ front t some (Gives.char quote means) =
+part file names texts names1 texts1 _ front t some (Gives.integer {i = i}) = other_part names texts t (number_other i) some refl
+part file names texts names1 texts1 _ front t some Gives.char_literal =
     other_part names texts t (record { no_end = λ e. absurd (cc); no_text = λ e. absurd (cc) }) some refl
-part file names texts names1 texts1 _ front _ some (Gives.text {units = units} quote means) =
+part file names texts names1 texts1 _ front _ some (Gives.text_literal {units = units}) =
     let more = length-append texts (units ∷ []) in
     record {
       names_kept = omega arith;
@@ -110,19 +110,18 @@ one_part_more names texts names1 texts1 names2 texts2 t out first rest =
       texted = All-cons (HasText texts2) t out here rest.texted;
     }
 
-parts : (file file_end : ℕ) (names texts names1 texts1 : List (List ℕ)) (text : List Character) (out : List Token) → 0 < length names →
-    Lexes file file_end names texts text out names1 texts1 → AreParts names texts names1 texts1 out
-parts file file_end names texts _ _ _ _ some Lexes.at_end = no_parts names texts
-parts file file_end names texts names1 texts1 _ out some (Lexes.skips {c = c} {cs = cs} {n = n} is rest) =
-    parts file file_end names texts names1 texts1 (drop n (c ∷ cs)) out some rest
-parts file file_end names texts names2 texts2 _ _ some (Lexes.gives {names1 = names1} {texts1 = texts1} {c = c} {cs = cs} {t = t} {out = out} {n = n} is given rest) =
+parts : (file : ℕ) (names texts names1 texts1 : List (List ℕ)) (text : List Character) (out : List Token) → 0 < length names →
+    Lexes file names texts text out names1 texts1 → AreParts names texts names1 texts1 out
+parts file names texts _ _ _ _ some Lexes.at_end = no_parts names texts
+parts file names texts names1 texts1 _ out some (Lexes.blank {behind = b} next rest) = parts file names texts names1 texts1 b out some rest
+parts file names texts names2 texts2 _ _ some (Lexes.token {names1 = names1} {texts1 = texts1} {behind = b} {t = t} {out = out} next given rest) =
     let first = part file names texts names1 texts1 _ _ t some given in
     one_part_more names texts names1 texts1 names2 texts2 t out first
-    (parts file file_end names1 texts1 names2 texts2 (drop n (c ∷ cs)) out (omega (arith, some, first.names_kept)) rest)
+    (parts file names1 texts1 names2 texts2 b out (omega (arith, some, first.names_kept)) rest)
 
 pub tokens_are_whole : (file : ℕ) (bytes : List ℕ) (list : List Token) (names texts : List (List ℕ)) → HasTokens file bytes list names texts → AreWhole list names texts
 tokens_are_whole file bytes list names texts h =
-    let front = parts file (length bytes) ([] ∷ []) [] names texts h.characters h.list (omega arith) h.lexed in
+    let front = parts file ([] ∷ []) [] names texts h.characters h.list (omega arith) h.lexed in
     let last = end_token file (length bytes) in
     let Named : Token → Type 0 = λ t. t.text.0 < length names in
     let some : Named last = omega (arith, front.names_kept) in

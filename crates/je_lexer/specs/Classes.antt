@@ -32,3 +32,11 @@ begins_with_digit radix (c ∷ cs) = is_digit_below radix c.code
 abbrev pub tail : List Character → List Character
 tail [] = []
 tail (c ∷ cs) = cs
+
+abbrev pub is_quote : ℕ → Bool
+is_quote code = (code == 34) || (code == 39)
+
+-- an identifier character stands there
+abbrev pub begins_as_name_part : List Character → Bool
+begins_as_name_part [] = false
+begins_as_name_part (c ∷ cs) = continues_name c.code

@@ -1,41 +1,33 @@
--- JLS 3.2 and 3.5: the tokens of a source file. Its characters are a row of pieces, and the tokens are the pieces that are
--- tokens, in order, and then one of kind End.
-use Rattle.std.specs.Prelude.{◌≡◌, ◌+◌, ◌<◌, ◌≤◌, ℕ, pos, List, [], ◌∷◌, ◌++◌, length, take, drop, Option, Some, None, All, Result, Ok, Err}
+-- JLS 3.2 and 3.5: the tokens of a source file. Its characters are a row of input elements, each the longest that begins where
+-- it stands, and the tokens are the elements that are tokens, in order, and then one of kind End.
+use Rattle.std.specs.Prelude.{◌≡◌, ◌≢◌, ◌+◌, ◌<◌, ◌≤◌, ℕ, pos, List, [], ◌∷◌, ◌++◌, length, All}
 use Rattle.je_decode.specs.Decoding.{Decodes, IsNotUtf8, HasBadEscape}
 use Rattle.je_decode.specs.declared.character.Character.{Character}
 use Rattle.je_token.specs.declared.token.Token.{Token}
 use Rattle.je_token.specs.declared.token.TokenKind.TheVariants as kind
-use Rattle.je_lexer.specs.Cutting.{cut_at, cut_len}
-use Rattle.je_lexer.specs.Tokens.{Gives, IsFault, no_name}
-use Rattle.je_lexer.specs.declared.cutting.Cut.TheVariants as cut
+use Rattle.je_lexer.specs.Elements.{Element, IsNext, BeginsNone}
+use Rattle.je_lexer.specs.Faults.{IsWrong}
+use Rattle.je_lexer.specs.Tokens.{Gives, no_name}
 use Rattle.je_lexer.specs.declared.fault.FaultKind.{FaultKind}
 use Rattle.je_lexer.specs.declared.fault.FaultKind.TheVariants as fault
 use Rattle.je_lexer.specs.declared.fault.LexFault.{LexFault}
 use Rattle.je_lexer.specs.declared.fault.LexFault.TheVariants as refusal
-use Rattle.je_lexer.specs.declared.lexing.Tokens.{Tokens}
+use Rattle.je_lexer.specs.declared.file_tokens.Tokens.{Tokens}
 
 -- With these names and texts before, the characters are these tokens, with those names and texts after.
-pub data Lexes (file file_end : ℕ) : List (List ℕ) → List (List ℕ) → List Character → List Token → List (List ℕ) → List (List ℕ) → Type 0 where
-  at_end : {names texts : List (List ℕ)} → Lexes file file_end names texts [] [] names texts
-  skips : {names texts names1 texts1 : List (List ℕ)} {c : Character} {cs : List Character} {out : List Token} {n : ℕ} → cut_at file_end c cs ≡ cut.Blank n →
-      Lexes file file_end names texts (drop n (c ∷ cs)) out names1 texts1 → Lexes file file_end names texts (c ∷ cs) out names1 texts1
-  gives : {names texts names1 texts1 names2 texts2 : List (List ℕ)} {c : Character} {cs : List Character} {t : Token} {out : List Token} {n : ℕ} → cut_len (cut_at file_end c cs) ≡ Some n →
-      Gives file names texts (cut_at file_end c cs) (take n (c ∷ cs)) t names1 texts1 →
-      Lexes file file_end names1 texts1 (drop n (c ∷ cs)) out names2 texts2 → Lexes file file_end names texts (c ∷ cs) (t ∷ out) names2 texts2
+pub data Lexes (file : ℕ) : List (List ℕ) → List (List ℕ) → List Character → List Token → List (List ℕ) → List (List ℕ) → Type 0 where
+  at_end : {names texts : List (List ℕ)} → Lexes file names texts [] [] names texts
+  blank : {names texts names1 texts1 : List (List ℕ)} {text front behind : List Character} {out : List Token} → IsNext text Element.Blank front behind →
+      Lexes file names texts behind out names1 texts1 → Lexes file names texts text out names1 texts1
+  token : {names texts names1 texts1 names2 texts2 : List (List ℕ)} {text front behind : List Character} {e : Element} {t : Token} {out : List Token} →
+      IsNext text e front behind → Gives file names texts e front t names1 texts1 → Lexes file names1 texts1 behind out names2 texts2 →
+      Lexes file names texts text (t ∷ out) names2 texts2
 
--- the characters of the piece at the front, where one is cut
-abbrev pub front_of : Option ℕ → List Character → List Character
-front_of None text = []
-front_of (Some n) text = take n text
-
--- The first fault of the characters in reading order stands from this byte to that.
-pub data Fails (file file_end : ℕ) : List Character → FaultKind → ℕ → ℕ → Type 0 where
-  here : {c : Character} {cs : List Character} {k : FaultKind} {start end : ℕ} → IsFault (cut_at file_end c cs) (front_of (cut_len (cut_at file_end c cs)) (c ∷ cs)) k start end →
-      Fails file file_end (c ∷ cs) k start end
-  behind_blank : {c : Character} {cs : List Character} {k : FaultKind} {start end n : ℕ} → cut_at file_end c cs ≡ cut.Blank n → Fails file file_end (drop n (c ∷ cs)) k start end →
-      Fails file file_end (c ∷ cs) k start end
-  behind_token : {names texts names1 texts1 : List (List ℕ)} {c : Character} {cs : List Character} {t : Token} {k : FaultKind} {start end n : ℕ} → cut_len (cut_at file_end c cs) ≡ Some n →
-      Gives file names texts (cut_at file_end c cs) (take n (c ∷ cs)) t names1 texts1 → Fails file file_end (drop n (c ∷ cs)) k start end → Fails file file_end (c ∷ cs) k start end
+-- The characters are elements up to a place where none begins, and the fault there stands from this byte to that.
+pub data Fails (file_end : ℕ) : List Character → FaultKind → ℕ → ℕ → Type 0 where
+  here : {text : List Character} {k : FaultKind} {start end : ℕ} → BeginsNone text → IsWrong file_end text k start end → Fails file_end text k start end
+  later : {text front behind : List Character} {e : Element} {k : FaultKind} {start end : ℕ} → IsNext text e front behind → Fails file_end behind k start end →
+      Fails file_end text k start end
 
 abbrev pub end_token : ℕ → ℕ → Token
 end_token file file_end =
@@ -46,7 +38,7 @@ pub record HasTokens (file : ℕ) (bytes : List ℕ) (tokens : List Token) (name
   pub characters : List Character
   pub decoded : Decodes bytes characters
   pub list : List Token
-  pub lexed : Lexes file (length bytes) ([] ∷ []) [] characters list names texts
+  pub lexed : Lexes file ([] ∷ []) [] characters list names texts
   pub ended : tokens ≡ list ++ end_token file (length bytes) ∷ []
 
 -- The token's bytes are in the file.
@@ -64,25 +56,22 @@ pub record AreWhole (tokens : List Token) (names texts : List (List ℕ)) : Type
   pub last : Token
   pub whole : tokens ≡ front ++ last ∷ []
   pub ended : last.kind ≡ kind.End
-  pub unended : All (λ t. t.kind ≡ kind.End → ⊥) front
+  pub unended : All (λ t. t.kind ≢ kind.End) front
   pub named : All (λ t. t.text.0 < length names) tokens
   pub texted : All (HasText texts) tokens
 
+-- A byte that isn't UTF-8 comes before all other faults, then a malformed Unicode escape, then the first in reading order.
+pub data HasFault (bytes : List ℕ) : FaultKind → ℕ → ℕ → Type 0 where
+  not_utf8 : {at : ℕ} → IsNotUtf8 bytes at → HasFault bytes fault.NotUtf8 at (at + 1)
+  malformed : {bad : Character} → HasBadEscape bytes bad → HasFault bytes fault.BadEscape bad.start bad.end
+  no_element : {k : FaultKind} {start end : ℕ} (characters : List Character) → Decodes bytes characters → Fails (length bytes) characters k start end →
+      HasFault bytes k start end
+
+-- The bytes' tokens.
 abbrev pub IsTokens : ℕ → List ℕ → Tokens → Type 0
 IsTokens file bytes tokens = HasTokens file bytes tokens.list.items tokens.names tokens.texts.items
 
--- A byte that isn't UTF-8 comes before all other faults, then a malformed Unicode escape, then the first in reading order.
-pub data HasFault (file : ℕ) (bytes : List ℕ) : FaultKind → ℕ → ℕ → Type 0 where
-  not_utf8 : {at : ℕ} → IsNotUtf8 bytes at → HasFault file bytes fault.NotUtf8 at (at + 1)
-  malformed : {bad : Character} → HasBadEscape bytes bad → HasFault file bytes fault.BadEscape bad.start bad.end
-  uncut : {k : FaultKind} {start end : ℕ} (characters : List Character) → Decodes bytes characters → Fails file (length bytes) characters k start end → HasFault file bytes k start end
-
--- Why bytes have no tokens.
-abbrev pub IsUnlexed : LexFault → ℕ → List ℕ → Type 0
-IsUnlexed refusal.Memory file bytes = Unit {0}
-IsUnlexed (refusal.At kind span) file bytes = (span.file ≡ file) × HasFault file bytes kind span.start span.end
-
--- The bytes' tokens, or their fault, unless memory ran out.
-abbrev pub IsLexed : Result Tokens LexFault → ℕ → List ℕ → Type 0
-IsLexed (Ok tokens) file bytes = IsTokens file bytes tokens
-IsLexed (Err e) file bytes = IsUnlexed e file bytes
+-- Why bytes have no tokens, unless memory ran out.
+abbrev pub IsUnlexed : ℕ → List ℕ → LexFault → Type 0
+IsUnlexed file bytes refusal.Memory = Unit {0}
+IsUnlexed file bytes (refusal.At kind span) = (span.file ≡ file) × HasFault bytes kind span.start span.end

@@ -1,12 +1,10 @@
 pub mod Classes
-pub mod Cutting
 pub mod Elements
+pub mod Faults
 pub mod Lexing
 pub mod Numbers
-pub mod Reading
-pub mod Runs
-pub mod Steps
+pub mod Spans
 pub mod Texts
 pub mod Tokens
-pub mod Views
 pub mod Words
+pub mod way

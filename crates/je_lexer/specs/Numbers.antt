@@ -1,9 +1,8 @@
 -- JLS 3.10.1: integer literals. A word is a whole run of identifier characters that begins with a digit.
-use Rattle.std.specs.Prelude.{ℕ, ◌+◌, ◌*◌, ◌^◌, Bool, true, false, not, ◌&&◌, ◌||◌, ◌==◌, nat_lt, List, [], ◌∷◌, drop, Option, Some, None, if◌then◌else◌}
+use Rattle.std.specs.Prelude.{ℕ, suc, ◌+◌, ◌*◌, ◌^◌, Bool, true, false, not, ◌&&◌, ◌||◌, ◌==◌, nat_lt, List, [], ◌∷◌, drop, Option, Some, None, if◌then◌else◌}
 use Rattle.std.specs.Char.{digit_value}
 use Rattle.je_decode.specs.declared.character.Character.{Character}
 use Rattle.je_lexer.specs.Classes.{begins_with, begins_with_digit, is_digit_below, tail}
-use Rattle.je_lexer.specs.Runs.{hexadecimal_run}
 use Rattle.je_lexer.specs.declared.numbers.Number.{Number}
 
 abbrev pub is_empty : List Character → Bool
@@ -36,14 +35,15 @@ number word =
 abbrev pub limit : Number → ℕ
 limit n = if n.decimal then (if n.long then 2 ^ 63 + 1 else 2 ^ 31 + 1) else (if n.long then 2 ^ 64 else 2 ^ 32)
 
-abbrev pub in_limit : Option Number → Bool
-in_limit None = false
-in_limit (Some n) = nat_lt n.value (limit n)
-
 -- ---- texts that Java reads as floating-point literals (JLS 3.10.2)
 
 abbrev pub begins_with_sign : List Character → Bool
 begins_with_sign cs = begins_with 43 cs || begins_with 45 cs
+
+-- how many hexadecimal digits stand at the front
+abbrev pub hexadecimal_run : List Character → ℕ
+hexadecimal_run [] = 0
+hexadecimal_run (c ∷ cs) = if is_digit_below 16 c.code then suc (hexadecimal_run cs) else 0
 
 -- `p`, maybe a sign, and a digit
 abbrev pub begins_with_exponent : List Character → Bool
@@ -56,10 +56,6 @@ unfoldable pub goes_on : List Character → List Character → Bool
 goes_on word behind =
     begins_with 46 behind && (if is_hexadecimal word then begins_with_exponent (drop (hexadecimal_run (tail behind)) (tail behind)) else true)
 
-abbrev pub is_long : Option Number → Bool
-is_long None = false
-is_long (Some n) = n.long
-
--- the literal that the word is, before what stands behind it; one with `l` or `L` is no floating-point literal's front
-unfoldable pub number_before : List Character → List Character → Option Number
-number_before behind word = if in_limit (number word) && (is_long (number word) || not (goes_on word behind)) then number word else None
+-- Java reads the literal and what stands behind it as a floating-point literal; one with `l` or `L` ends before it
+abbrev pub is_floating : Number → List Character → List Character → Bool
+is_floating i word behind = not i.long && goes_on word behind

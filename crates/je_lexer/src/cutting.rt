@@ -1,6 +1,7 @@
 //! What stands at the front of a text.
 ghost use Rattle.std.specs.Prelude.{◌≡◌, ◌<◌, ◌≤◌, ◌+◌, ◌^◌, ◌∷◌, length, IfSome, None};
-ghost use Rattle.je_lexer.specs.Cutting.{end_of, start_of, bad_number, number_cut, literal_cut, comment_cut, if_symbol, cut_at, cut_len};
+ghost use Rattle.je_lexer.specs.Spans.{end_of, start_of};
+ghost use Rattle.je_lexer.specs.way.Cutting.{bad_number, number_cut, literal_cut, comment_cut, if_symbol, cut_at, cut_len};
 
 use crate::classes::{begins_with, begins_with_digit, is_digit_below, is_space, starts_name, tail};
 use crate::fault::FaultKind;
@@ -47,7 +48,7 @@ pub fn start_of(file_end: u32, text: &[Character]) -> u32
     }
 }
 
-#[tactic(auto, unfolding(crate::specs::Cutting::bad_number))]
+#[tactic(auto, unfolding(crate::specs::way::Cutting::bad_number))]
 fn bad_number(c: Character, behind: &[Character]) -> Cut
     ensures value { result ≡ bad_number c behind.now }
     ensures none { cut_len result ≡ None }
@@ -59,7 +60,7 @@ fn bad_number(c: Character, behind: &[Character]) -> Cut
     )
 }
 
-#[tactic(auto, unfolding(crate::specs::Cutting::literal_cut))]
+#[tactic(auto, unfolding(crate::specs::way::Cutting::literal_cut))]
 fn literal_cut(file_end: u32, c: Character, behind: &[Character]) -> Cut
     requires { length behind.now < 2 ^ 63 }
     ensures value { result ≡ literal_cut file_end c behind.now }
@@ -74,7 +75,7 @@ fn literal_cut(file_end: u32, c: Character, behind: &[Character]) -> Cut
     }
 }
 
-#[tactic(auto, unfolding(crate::specs::Cutting::comment_cut))]
+#[tactic(auto, unfolding(crate::specs::way::Cutting::comment_cut))]
 fn comment_cut(file_end: u32, c: Character, behind: &[Character]) -> Cut
     requires { length behind.now < 2 ^ 63 }
     ensures value { result ≡ comment_cut file_end c behind.now }
@@ -89,7 +90,7 @@ fn comment_cut(file_end: u32, c: Character, behind: &[Character]) -> Cut
     }
 }
 
-#[tactic(auto, unfolding(crate::specs::Cutting::number_cut))]
+#[tactic(auto, unfolding(crate::specs::way::Cutting::number_cut))]
 fn number_cut(text: &[Character], c: Character, behind: &[Character]) -> Cut
     requires parts { text.now ≡ c ∷ behind.now }
     requires few { length text.now < 2 ^ 63 }
@@ -104,7 +105,7 @@ fn number_cut(text: &[Character], c: Character, behind: &[Character]) -> Cut
 }
 
 /// What stands at the front of `text`, which is `c` and what is behind it.
-#[tactic(auto, unfolding(crate::specs::Cutting::cut_at))]
+#[tactic(auto, unfolding(crate::specs::way::Cutting::cut_at))]
 pub fn cut_at(file_end: u32, text: &[Character], c: Character, behind: &[Character]) -> Cut
     requires parts { text.now ≡ c ∷ behind.now }
     requires few { length text.now < 2 ^ 63 }

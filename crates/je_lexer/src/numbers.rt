@@ -1,6 +1,7 @@
 //! Integer literals.
 ghost use Rattle.std.specs.Prelude.{◌≡◌, ◌<◌, ◌≤◌, ◌^◌, IfSome};
-ghost use Rattle.je_lexer.specs.Numbers.{is_empty, is_suffix, is_hexadecimal, digits, number, limit, in_limit, begins_with_sign, begins_with_exponent, goes_on, is_long, number_before};
+ghost use Rattle.je_lexer.specs.Numbers.{is_empty, is_suffix, is_hexadecimal, digits, number, limit, begins_with_sign, begins_with_exponent, goes_on};
+ghost use Rattle.je_lexer.specs.way.Numbers.{in_limit, is_long, number_before};
 
 use crate::classes::{begins_with, begins_with_digit, digit, tail};
 use crate::runs::hexadecimal_run;
@@ -134,7 +135,7 @@ fn is_long(n: Option<Number>) -> bool
 }
 
 /// The literal that a word is, before what stands behind it.
-#[tactic(auto, unfolding(crate::specs::Numbers::number_before))]
+#[tactic(auto, unfolding(crate::specs::way::Numbers::number_before))]
 pub fn number_before(behind: &[Character], word: &[Character]) -> Option<Number>
     ensures { result ≡ number_before behind.now word.now }
 {

@@ -1,8 +1,9 @@
-//! One piece after another.
-ghost use Rattle.std.specs.Prelude.{◌≡◌, ◌<◌, ◌^◌, ℕ, List, length, IfOk, IsTrue, IsFalse};
+//! What token, if any, is cut at the front of a text.
+ghost use Rattle.std.specs.Prelude.{◌≡◌, ◌<◌, ◌^◌, ℕ, List, length, IfOk, IfErr, IsTrue, IsFalse};
 ghost use Rattle.je_lexer.specs.Classes.{begins_with};
-ghost use Rattle.je_lexer.specs.Steps.{IsPiece, IsTokenPiece, IsBody};
-ghost use Rattle.je_lexer.specs.Tokens.{Gives, body};
+ghost use Rattle.je_lexer.specs.Elements.{body};
+ghost use Rattle.je_lexer.specs.Texts.{Means};
+ghost use Rattle.je_lexer.specs.way.Steps.{IsToken, IsPiece, IsNoPiece, IsBadBody};
 
 use crate::classes::{begins_with, tail};
 use crate::cutting::Cut;
@@ -24,7 +25,8 @@ fn lex_word(
     front: &[Character],
 ) -> Result<Token, Memory>
     requires { length names.old < 2 ^ 31 }
-    ensures { (texts : List (List ℕ)) → IfOk result (λ t. Gives file names.old texts (Cut.Word len) front.now t names.new texts) }
+    ensures { (texts : List (List ℕ)) →
+        IfOk result (IsToken file (Cut.Word len) front.now names.old texts names.new texts) }
 {
     let text = spell(alloc, front)?;
     let id = names.intern(&text)?;
@@ -46,7 +48,9 @@ fn body(front: &[Character]) -> &[Character]
 /// The token of a character literal, which is one UTF-16 unit.
 fn lex_char(alloc: Global, file: u16, len: usize, front: &[Character]) -> Result<Token, LexFault>
     requires { IsTrue (begins_with 39 front.now) }
-    ensures { (names texts : List (List ℕ)) → IsTokenPiece result file (Cut.Literal len) front.now names texts names texts }
+    ensures ok { (names texts : List (List ℕ)) →
+        IfOk result (IsToken file (Cut.Literal len) front.now names texts names texts) }
+    ensures fault { IfErr result (IsNoPiece file (Cut.Literal len) front.now) }
 {
     let units = match read_body(alloc, file, front) {
         Ok(units) => units,
@@ -77,7 +81,9 @@ fn lex_text(
     front: &[Character],
 ) -> Result<Token, LexFault>
     requires { IsFalse (begins_with 39 front.now) }
-    ensures { (names : List (List ℕ)) → IsTokenPiece result file (Cut.Literal len) front.now names texts.old.items names texts.new.items }
+    ensures ok { (names : List (List ℕ)) →
+        IfOk result (IsToken file (Cut.Literal len) front.now names texts.old.items names texts.new.items) }
+    ensures fault { IfErr result (IsNoPiece file (Cut.Literal len) front.now) }
 {
     let units = match read_body(alloc, file, front) {
         Ok(units) => units,
@@ -96,7 +102,8 @@ fn lex_text(
 
 /// The units of a literal.
 fn read_body(alloc: Global, file: u16, front: &[Character]) -> Result<Units, LexFault>
-    ensures { IsBody result file front.now }
+    ensures ok { IfOk result (λ units. Means (body front.now) units) }
+    ensures fault { IfErr result (IsBadBody file front.now) }
 {
     match read_text(alloc, body(front)) {
         Ok(units) => Ok(units),
@@ -122,7 +129,9 @@ pub fn lex_piece(
     front: &[Character],
 ) -> Result<Option<Token>, LexFault>
     requires { length names.old < 2 ^ 31 }
-    ensures { IsPiece result file cut front.now names.old texts.old.items names.new texts.new.items }
+    ensures ok { IfOk result
+        (IsPiece file cut front.now names.old texts.old.items names.new texts.new.items) }
+    ensures fault { IfErr result (IsNoPiece file cut front.now) }
 {
     let token = match cut {
         Cut::Blank(_) => return Ok(None),
@@ -150,7 +159,9 @@ fn lex_literal(
     len: usize,
     front: &[Character],
 ) -> Result<Token, LexFault>
-    ensures { (names : List (List ℕ)) → IsTokenPiece result file (Cut.Literal len) front.now names texts.old.items names texts.new.items }
+    ensures ok { (names : List (List ℕ)) →
+        IfOk result (IsToken file (Cut.Literal len) front.now names texts.old.items names texts.new.items) }
+    ensures fault { IfErr result (IsNoPiece file (Cut.Literal len) front.now) }
 {
     if begins_with(39, front) {
         lex_char(alloc, file, len, front)

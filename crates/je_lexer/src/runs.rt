@@ -1,6 +1,7 @@
 //! How many characters stand at the front of a text.
 ghost use Rattle.std.specs.Prelude.{◌≡◌, ◌≤◌, length, false};
-ghost use Rattle.je_lexer.specs.Runs.{space_run, name_run, number_run, hexadecimal_run, line_run, comment_run, literal_run};
+ghost use Rattle.je_lexer.specs.Numbers.{hexadecimal_run};
+ghost use Rattle.je_lexer.specs.way.Runs.{space_run, name_run, number_run, line_run, comment_run, literal_run};
 
 use crate::classes::{begins_with, continues_name, ends_line, is_digit_below, is_space};
 use je_decode::Character;

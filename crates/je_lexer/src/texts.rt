@@ -1,7 +1,7 @@
 //! What stands between a literal's quotes.
-ghost use Rattle.std.specs.Prelude.{◌≡◌, ◌≤◌, length, option_map, IfSome, OnOk, ◌++◌};
-ghost use Rattle.je_lexer.specs.Texts.{units_of, is_octal, simple_escape, and_octal, and_octals, escape_piece, text_piece};
-ghost use Rattle.je_lexer.specs.Views.{units_said, piece_said, IsRead};
+ghost use Rattle.std.specs.Prelude.{◌≡◌, ◌≤◌, length, option_map, IfSome, IfOk, IfErr, OnOk, ◌++◌};
+ghost use Rattle.je_lexer.specs.Texts.{units_of, is_octal, simple_escape, and_octal, and_octals, escape_piece, text_piece, Means};
+ghost use Rattle.je_lexer.specs.way.Views.{units_said, piece_said, IsBadText};
 
 use je_base::{Memory, Units};
 use je_decode::Character;
@@ -155,7 +155,8 @@ fn push_units(units: &mut Units, more: PieceUnits) -> Result<(), Memory>
 
 /// The UTF-16 units of what stands between a literal's quotes.
 pub fn read_text(alloc: Global, body: &[Character]) -> Result<Units, TextFault>
-    ensures { IsRead result body.now }
+    ensures ok { IfOk result (λ units. Means body.now units) }
+    ensures fault { IfErr result (IsBadText body.now) }
 {
     let mut units = Units::new(alloc);
     let mut rest = body;

@@ -1,7 +1,8 @@
 //! What token the characters of a piece are.
 ghost use Rattle.std.specs.Prelude.{◌≡◌, ◌<◌, ◌^◌, ℤ, pos, length, IfOk, OnOk, OnErr, Some, string_bytes};
 ghost use Rattle.je_base.specs.Names.{interned, number_of};
-ghost use Rattle.je_lexer.specs.Tokens.{first_end, second_end, span_of, token, spelled, word_kind, number_kind, number_value, body, no_name};
+ghost use Rattle.je_lexer.specs.Spans.{first_end, second_end, span_of};
+ghost use Rattle.je_lexer.specs.Tokens.{token, spelled, word_kind, number_kind, number_value, no_name};
 
 use crate::cutting::{end_of, start_of};
 use crate::numbers::Number;

@@ -1,7 +1,8 @@
 //! Keywords and symbols.
 ghost use Rattle.std.specs.Prelude.{◌≡◌, ◌≤◌, length};
 ghost use Rattle.std.specs.Bool.{OnTrue};
-ghost use Rattle.je_lexer.specs.Words.{all_keywords, keyword_of, all_symbols, fits, symbol_len, longer, longest, symbol_at, FitsIn};
+ghost use Rattle.je_lexer.specs.Words.{all_keywords, keyword_of};
+ghost use Rattle.je_lexer.specs.way.Symbols.{all_symbols, fits, symbol_len, longer, longest, symbol_at, FitsIn};
 
 use je_decode::Character;
 use je_table::find_keyword;
@@ -44,7 +45,7 @@ fn symbol_len(symbol: Option<Symbol>) -> usize
     }
 }
 
-#[tactic(auto, unfolding(crate::specs::Words::longer))]
+#[tactic(auto, unfolding(crate::specs::way::Symbols::longer))]
 fn longer(best: Option<Symbol>, s: Symbol, text: &[Character]) -> Option<Symbol>
     requires { FitsIn best text.now }
     ensures value { result ≡ longer best s text.now }
@@ -59,7 +60,7 @@ fn longer(best: Option<Symbol>, s: Symbol, text: &[Character]) -> Option<Symbol>
 }
 
 /// The longest separator or operator at the front.
-#[tactic(auto, unfolding(crate::specs::Words::symbol_at))]
+#[tactic(auto, unfolding(crate::specs::way::Symbols::symbol_at))]
 pub fn symbol_at(text: &[Character]) -> Option<Symbol>
     ensures value { result ≡ symbol_at text.now }
     ensures within { FitsIn result text.now }

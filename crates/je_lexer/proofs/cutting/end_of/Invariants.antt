@@ -1,5 +1,5 @@
 use Rattle.std.proofs.Common.{◌≡◌, length}
-use Rattle.je_lexer.specs.Cutting.{end_of}
+use Rattle.je_lexer.specs.Spans.{end_of}
 use Rattle.je_lexer.proofs.cutting.end_of.Given as goal
 
 abbrev pub invariant-loop-c : goal.invariant-loop-c

@@ -1,4 +1,4 @@
-use Rattle.je_lexer.proofs.Apart.{apart}
+use Rattle.je_lexer.proofs.OneAnswer.{apart}
 use Rattle.je_lexer.proofs.Total.{total}
 use Rattle.je_lexer.proofs.laws.tokens_or_fault.Goals as goal
 

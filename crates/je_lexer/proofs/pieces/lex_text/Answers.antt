@@ -8,11 +8,11 @@ use Rattle.je_lexer.specs.Tokens.{token, no_name}
 use Rattle.je_lexer.proofs.Giving.{text_gives, body_fails}
 use Rattle.je_lexer.proofs.pieces.lex_text.Goals as goal
 
-pub returns-in-Err : goal.returns-in-Err
-returns-in-Err c names = body_fails c.args.file c.args.len c.args.front.now names c.args.texts.now.items c.in-Err.fault c.in-Err.ensures
+pub returns-in-Err-clause-fault : goal.returns-in-Err-clause-fault
+returns-in-Err-clause-fault c = body_fails c.args.file c.args.len c.args.front.now c.in-Err.fault c.in-Err.ensures.fault
 
-pub returns : goal.returns
-returns c names =
+pub returns-clause-ok : goal.returns-clause-ok
+returns-clause-ok c names =
     let place : c.len-place.result ≡ length c.args.texts.now.items = c.len-place.ensures ∙ c.args.texts.now.ok.0 in
-    rw c.in_ok-push.ensures.items (text_gives c.args.file names c.args.texts.now.items c.args.len c.args.front.now c.in-Ok.units c.make_token.result c.requires c.in-Ok.ensures
+    rw c.in_ok-push.ensures.items (text_gives c.args.file names c.args.texts.now.items c.args.len c.args.front.now c.in-Ok.units c.make_token.result c.requires c.in-Ok.ensures.ok
     (c.make_token.ensures ∙ ap (λ v. token c.args.file kind.TextLiteral no_name v c.args.front.now) (to_z_pos w128 c.len-place.result (omega arith) ∙ ap pos place)))

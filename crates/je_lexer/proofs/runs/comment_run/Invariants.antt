@@ -1,5 +1,5 @@
 use Rattle.std.proofs.Common.{◌≡◌, ◌+◌, length}
-use Rattle.je_lexer.specs.Runs.{comment_run}
+use Rattle.je_lexer.specs.way.Runs.{comment_run}
 use Rattle.je_lexer.proofs.runs.comment_run.Given as goal
 
 abbrev pub invariant-loop-c : goal.invariant-loop-c

@@ -1,5 +1,5 @@
 use Rattle.std.proofs.Common.{◌≡◌, ◌+◌, length, false}
-use Rattle.je_lexer.specs.Runs.{literal_run}
+use Rattle.je_lexer.specs.way.Runs.{literal_run}
 use Rattle.je_lexer.proofs.runs.literal_run.Given as goal
 
 abbrev pub invariant-loop-c : goal.invariant-loop-c

@@ -1,5 +1,5 @@
 use Rattle.std.proofs.Common.{◌≡◌, ◌+◌, length}
-use Rattle.je_lexer.specs.Words.{fits}
+use Rattle.je_lexer.specs.way.Symbols.{fits}
 use Rattle.je_lexer.proofs.words.fits.Given as goal
 
 abbrev pub invariant-loop-b : goal.invariant-loop-b

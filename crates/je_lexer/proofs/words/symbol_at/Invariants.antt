@@ -1,5 +1,5 @@
 use Rattle.std.proofs.Common.{◌≡◌, length, None}
-use Rattle.je_lexer.specs.Words.{longest, all_symbols, FitsIn}
+use Rattle.je_lexer.specs.way.Symbols.{longest, all_symbols, FitsIn}
 use Rattle.je_lexer.proofs.words.symbol_at.Given as goal
 
 abbrev pub invariant-loop-s : goal.invariant-loop-s

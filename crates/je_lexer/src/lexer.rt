@@ -1,13 +1,13 @@
 //! A file's tokens from left to right.
-ghost use Rattle.std.specs.Prelude.{◌≡◌, ◌<◌, ◌≤◌, ◌^◌, ◌∷◌, ◌+◌, length, unwrap_or, IfOk};
-ghost use Rattle.je_lexer.specs.Cutting.{cut_len};
-ghost use Rattle.je_lexer.specs.Lexing.{IsLexed, IsUnlexed, end_token};
+ghost use Rattle.std.specs.Prelude.{◌≡◌, ◌<◌, ◌≤◌, ◌^◌, ◌∷◌, length, unwrap_or, IfOk, IfErr};
+ghost use Rattle.je_lexer.specs.way.Cutting.{cut_len};
+ghost use Rattle.je_lexer.specs.Lexing.{IsTokens, IsUnlexed, end_token};
 ghost use Rattle.je_decode.specs.Decoding.{IsRefused};
-ghost use Rattle.je_lexer.specs.Reading.{IsStep, IsWhole, IsFresh};
+ghost use Rattle.je_lexer.specs.way.Reading.{IsStep, IsNoStep, IsWhole, IsNoWhole, IsFresh};
 
 use crate::cutting::{Cut, cut_at};
 use crate::fault::{FaultKind, LexFault};
-use crate::lexing::Tokens;
+use crate::file_tokens::Tokens;
 use crate::pieces::lex_piece;
 use je_base::{Memory, NameId, Names, Span};
 use je_decode::{Character, DecodeFault, decode};
@@ -41,7 +41,7 @@ fn no_tokens(alloc: Global) -> Result<Tokens, Memory>
     })
 }
 
-/// Reads the piece at the front of `text`, which is `c` and what is behind it, and says how many characters it has.
+/// Reads the input element at the front of `text`, which is `c` and what is behind it, and says how many characters it has.
 fn step(
     alloc: Global,
     file: u16,
@@ -54,7 +54,8 @@ fn step(
     requires parts { text.now ≡ c ∷ behind.now }
     requires few { length text.now < 2 ^ 63 }
     requires names { length tokens.old.names < 2 ^ 31 }
-    ensures { IsStep result file file_end c behind.now tokens.old tokens.new }
+    ensures ok { IfOk result (IsStep file text.now tokens.old tokens.new) }
+    ensures fault { IfErr result (IsNoStep file file_end text.now) }
 {
     let cut = cut_at(file_end, text, c, behind);
     let len = len_of(cut);
@@ -81,7 +82,8 @@ fn lex_characters(
     characters: &[Character],
 ) -> Result<Tokens, LexFault>
     requires { length characters.now ≤ 2 ^ 20 }
-    ensures { IsWhole result file file_end characters.now }
+    ensures ok { IfOk result (IsWhole file characters.now) }
+    ensures fault { IfErr result (IsNoWhole file file_end characters.now) }
 {
     let mut tokens = match no_tokens(alloc) {
         Ok(tokens) => tokens,
@@ -101,7 +103,8 @@ fn lex_characters(
 /// faults, then a malformed Unicode escape, then the first in reading order.
 pub fn lex(alloc: Global, file: u16, bytes: &[u8]) -> Result<Tokens, LexFault>
     requires { length bytes.now ≤ 2 ^ 20 }
-    ensures value { IsLexed result file bytes.now }
+    ensures ok { IfOk result (IsTokens file bytes.now) }
+    ensures fault { IfErr result (IsUnlexed file bytes.now) }
     ensures names { IfOk result (λ tokens. length tokens.names ≤ length tokens.list.items) }
 {
     let characters = match decode(alloc, bytes) {
@@ -121,7 +124,7 @@ pub fn lex(alloc: Global, file: u16, bytes: &[u8]) -> Result<Tokens, LexFault>
 fn undecoded(file: u16, fault: DecodeFault, bytes: &[u8]) -> LexFault
     requires why { IsRefused fault bytes.now }
     requires small { length bytes.now ≤ 2 ^ 20 }
-    ensures { IsUnlexed result file bytes.now }
+    ensures { IsUnlexed file bytes.now result }
 {
     match fault {
         DecodeFault::Memory => LexFault::Memory,

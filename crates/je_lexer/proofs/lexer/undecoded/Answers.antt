@@ -3,7 +3,7 @@ use Rattle.std.proofs.Common.{◌+◌}
 use Rattle.je_lexer.specs.Lexing.{HasFault}
 use Rattle.je_lexer.specs.declared.fault.FaultKind.TheVariants as kind
 use Rattle.je_lexer.proofs.Refusing.{refused}
-use Rattle.je_lexer.proofs.reading.undecoded.Goals as goal
+use Rattle.je_lexer.proofs.lexer.undecoded.Goals as goal
 
 pub returns-in-NotUtf8 : goal.returns-in-NotUtf8
 returns-in-NotUtf8 c =

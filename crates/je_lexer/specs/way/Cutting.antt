@@ -1,27 +1,20 @@
--- JLS 3.2, 3.5 to 3.12: what stands at the front of a text: white space or a comment, a token, or a fault. Each is the longest
--- that begins there.
-use Rattle.std.specs.Prelude.{ℕ, suc, ◌+◌, false, ◌&&◌, ◌||◌, ◌==◌, List, [], ◌∷◌, length, take, drop, Option, Some, None, if◌then◌else◌}
+-- What is cut at the front of a text: white space or a comment, a token, or a fault; and what element or fault that is.
+use Rattle.std.specs.Prelude.{◌≡◌, ◌≢◌, ℕ, true, suc, ◌+◌, false, ◌&&◌, ◌||◌, ◌==◌, List, [], ◌∷◌, length, take, drop, Option, Some, None, if◌then◌else◌}
 use Rattle.je_decode.specs.declared.character.Character.{Character}
 use Rattle.je_token.specs.Texts.{symbol_text}
 use Rattle.je_token.specs.declared.symbol.Symbol.{Symbol}
+use Rattle.je_lexer.specs.Spans.{start_of, end_of}
+use Rattle.je_lexer.specs.Elements.{Element, body}
+use Rattle.je_lexer.specs.Texts.{Means, HasBadBackslash}
 use Rattle.je_lexer.specs.Classes.{is_space, starts_name, is_digit_below, begins_with, begins_with_digit, tail}
-use Rattle.je_lexer.specs.Numbers.{number_before}
-use Rattle.je_lexer.specs.Runs.{space_run, name_run, number_run, line_run, comment_run, literal_run}
-use Rattle.je_lexer.specs.Words.{symbol_at}
+use Rattle.je_lexer.specs.way.Numbers.{number_before}
+use Rattle.je_lexer.specs.way.Runs.{space_run, name_run, number_run, line_run, comment_run, literal_run}
+use Rattle.je_lexer.specs.way.Symbols.{symbol_at}
 use Rattle.je_lexer.specs.declared.cutting.Cut.{Cut}
 use Rattle.je_lexer.specs.declared.cutting.Cut.TheVariants as cut
+use Rattle.je_lexer.specs.declared.fault.FaultKind.{FaultKind}
 use Rattle.je_lexer.specs.declared.fault.FaultKind.TheVariants as kind
 use Rattle.je_lexer.specs.declared.numbers.Number.{Number}
-
--- the byte behind the last of the characters; what it is where there is none
-abbrev pub end_of : ℕ → List Character → ℕ
-end_of end [] = end
-end_of end (c ∷ cs) = end_of c.end cs
-
--- the byte at which the text begins, or the file's end
-abbrev pub start_of : ℕ → List Character → ℕ
-start_of file_end [] = file_end
-start_of file_end (c ∷ cs) = c.start
 
 -- up to the end of the longest run of identifier characters and points
 unfoldable pub bad_number : Character → List Character → Cut
@@ -68,3 +61,25 @@ cut_len (cut.Symbol s n) = Some n
 cut_len (cut.Number number n) = Some n
 cut_len (cut.Literal n) = Some n
 cut_len (cut.Fault kind start end) = None
+
+-- the characters that are cut, if any are
+abbrev pub front_of : Option ℕ → List Character → List Character
+front_of None text = []
+front_of (Some n) text = take n text
+
+-- What is cut, with its characters, is this element.
+pub data IsOf : Cut → List Character → Element → Type 0 where
+  blank : {n : ℕ} {front : List Character} → IsOf (cut.Blank n) front Element.Blank
+  word : {n : ℕ} {front : List Character} → IsOf (cut.Word n) front Element.Word
+  sign : {s : Symbol} {n : ℕ} {front : List Character} → IsOf (cut.Symbol s n) front (Element.Sign s)
+  integer : {i : Number} {n : ℕ} {front : List Character} → IsOf (cut.Number i n) front (Element.Integer i)
+  char_literal : {n unit : ℕ} {front : List Character} → begins_with 39 front ≡ true → Means (body front) (unit ∷ []) → IsOf (cut.Literal n) front (Element.Char unit)
+  text_literal : {n : ℕ} {front : List Character} {units : List ℕ} → begins_with 39 front ≡ false → Means (body front) units →
+      IsOf (cut.Literal n) front (Element.Text units)
+
+-- What is cut, with its characters, is no element, for this reason, from this byte to that.
+pub data IsBad : Cut → List Character → FaultKind → ℕ → ℕ → Type 0 where
+  uncut : {k : FaultKind} {start end : ℕ} {front : List Character} → IsBad (cut.Fault k start end) front k start end
+  bad_escape : {n : ℕ} {front : List Character} {bad : Character} → HasBadBackslash (body front) bad → IsBad (cut.Literal n) front kind.BadEscape bad.start bad.end
+  no_unit : {n : ℕ} {front : List Character} {units : List ℕ} → begins_with 39 front ≡ true → Means (body front) units → length units ≢ 1 →
+      IsBad (cut.Literal n) front kind.BadLiteral (start_of 0 front) (end_of 0 front)

@@ -1,7 +1,7 @@
 -- How many characters stand at the front of a text: white space, a name, a comment's body, and so on.
 use Rattle.std.specs.Prelude.{ℕ, suc, Bool, not, ◌&&◌, ◌||◌, ◌==◌, List, [], ◌∷◌, if◌then◌else◌}
 use Rattle.je_decode.specs.declared.character.Character.{Character}
-use Rattle.je_lexer.specs.Classes.{is_space, ends_line, continues_name, is_digit_below, begins_with}
+use Rattle.je_lexer.specs.Classes.{is_space, ends_line, continues_name, begins_with}
 
 abbrev pub space_run : List Character → ℕ
 space_run [] = 0
@@ -15,10 +15,6 @@ name_run (c ∷ cs) = if continues_name c.code then suc (name_run cs) else 0
 abbrev pub number_run : List Character → ℕ
 number_run [] = 0
 number_run (c ∷ cs) = if continues_name c.code || (c.code == 46) then suc (number_run cs) else 0
-
-abbrev pub hexadecimal_run : List Character → ℕ
-hexadecimal_run [] = 0
-hexadecimal_run (c ∷ cs) = if is_digit_below 16 c.code then suc (hexadecimal_run cs) else 0
 
 -- up to the line's end
 abbrev pub line_run : List Character → ℕ

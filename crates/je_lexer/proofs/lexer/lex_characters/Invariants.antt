@@ -1,6 +1,6 @@
 use Rattle.std.proofs.Common.{length}
 use Rattle.je_lexer.proofs.Underway.{IsUnderway}
-use Rattle.je_lexer.proofs.reading.lex_characters.Given as goal
+use Rattle.je_lexer.proofs.lexer.lex_characters.Given as goal
 
 abbrev pub invariant-loop-c : goal.invariant-loop-c
 invariant-loop-c l = IsUnderway l.file l.file_end l.characters l.rest l.tokens.list.items l.tokens.names l.tokens.texts.items

@@ -1,8 +1,7 @@
 -- What functions return, without the references in it.
-use Rattle.std.specs.Prelude.{ℕ, List, [], ◌∷◌, Result, Ok, Err}
-use Rattle.je_base.specs.declared.units.Units.{Units}
+use Rattle.std.specs.Prelude.{ℕ, List, [], ◌∷◌}
 use Rattle.je_decode.specs.declared.character.Character.{Character}
-use Rattle.je_lexer.specs.Texts.{TextPiece, Means, HasBadBackslash}
+use Rattle.je_lexer.specs.Texts.{TextPiece, HasBadBackslash}
 use Rattle.je_lexer.specs.declared.texts.PieceFound.{PieceFound}
 use Rattle.je_lexer.specs.declared.texts.TextFault.{TextFault}
 use Rattle.je_lexer.specs.declared.texts.TextFault.TheVariants as fault
@@ -16,8 +15,7 @@ units_said (units.Pair a b) = a ∷ b ∷ []
 abbrev pub piece_said : PieceFound → TextPiece
 piece_said p = record { units = units_said p.units; rest = p.rest.now }
 
--- The body's units, or its first bad backslash, unless memory ran out.
-abbrev pub IsRead : Result Units TextFault → List Character → Type 0
-IsRead (Ok units) body = Means body units
-IsRead (Err fault.Memory) body = Unit {0}
-IsRead (Err (fault.BadEscape bad)) body = HasBadBackslash body bad
+-- The first backslash of a literal's text that begins no escape, unless memory ran out.
+abbrev pub IsBadText : List Character → TextFault → Type 0
+IsBadText body fault.Memory = Unit {0}
+IsBadText body (fault.BadEscape bad) = HasBadBackslash body bad
