@@ -3,7 +3,10 @@ use Rattle.std.specs.Prelude.{◌≡◌, ℕ, ◌+◌, ◌<◌, ◌≤◌, List,
 use Rattle.std.specs.declared.option.Option.{Option}
 use Rattle.je_top.specs.declared.files.FileFault.{FileFault}
 use Rattle.je_top.specs.declared.files.FileFault.TheVariants.{NotThere, TooLong, Failed, Memory}
-use Rattle.je_top.specs.declared.TheConstants.{FILE_LIMIT}
+
+-- the most bytes that a file may have to be read whole: a mebibyte
+abbrev pub file_limit : ℕ
+file_limit = 1048576
 
 -- the bytes of each name that has a file
 abbrev pub Held : Type 0
@@ -11,17 +14,19 @@ Held = List ℕ → Option (List ℕ)
 
 -- a file longer than the limit
 abbrev pub IsTooLong : List ℕ → Type 0
-IsTooLong file = FILE_LIMIT < length file
+IsTooLong file = file_limit < length file
 
 -- the bytes are the whole file of this name, within the limit
 pub record IsWhole (held : Option Held) (name bytes : List ℕ) : Type 0 where
-  pub within : length bytes ≤ FILE_LIMIT
+  pub within : length bytes ≤ file_limit
   pub told : IfSome held (λ files. files name ≡ Some bytes)
 
 -- the bytes are the front of the file of this name, which is too long: one byte more than the limit
 pub record IsFront (held : Option Held) (name bytes : List ℕ) : Type 0 where
-  pub past_limit : length bytes ≡ FILE_LIMIT + 1
-  pub told : IfSome held (λ files. (file : List ℕ) × (files name ≡ Some file) × IsTooLong file × (bytes ≡ take (FILE_LIMIT + 1) file))
+  pub past_limit : length bytes ≡ file_limit + 1
+  pub told : IfSome held (λ files.
+      (file : List ℕ) × (files name ≡ Some file) × IsTooLong file
+      × (bytes ≡ take (file_limit + 1) file))
 
 -- no file of this name is held; where nothing is told, the count rose
 abbrev pub IsMissing : Option Held → List ℕ → Type 0 → Type 0

@@ -14,5 +14,6 @@ is_plain (first ∷ rest) = not (first == dash)
 
 -- the file that the words ask to run, where they are in the grammar
 abbrev pub file_to_run : List (List ℕ) → Option (List ℕ)
-file_to_run (program ∷ command ∷ file ∷ []) = if is_plain program && bytes_eq command (codes "run") && is_plain file then Some file else None
+file_to_run (program ∷ command ∷ file ∷ []) =
+    if is_plain program && bytes_eq command (codes "run") && is_plain file then Some file else None
 file_to_run _ = None

@@ -1,9 +1,9 @@
 // Files by name.
 
-ghost use Rattle.std.specs.Prelude.{◌≡◌, ◌≤◌, ℕ, List, ⊤, OnOk, IfSome, MatchOption, IsErrOf, option_map};
+ghost use Rattle.std.specs.Prelude.{◌≡◌, ◌≤◌, ℕ, List, ⊤, OnOk, IfSome, MatchOption, IsErrOf};
 ghost use Rattle.std.specs.declared.option.Option.{Option};
 ghost use Rattle.je_top.specs.Counts.{Rose};
-ghost use Rattle.je_top.specs.Plan.{Plan, after_call, FailsNext, FailsIfHeld};
+ghost use Rattle.je_top.specs.Plan.{Plan, after_one, IsPlanned, FailsNext, FailsIfHeld};
 ghost use Rattle.je_top.specs.Files.{Held, IsWhole, IsFront, IsMissing, SaysMissing, KeepsCount, LeavesNothing, last_after};
 
 use thiserror::Error;
@@ -54,21 +54,25 @@ pub trait Files {
         ensures ok { OnOk result (IsWhole (held self.old) name.now into.new.items) }
         ensures not_there { IsErrOf result FileFault.NotThere →
             IsMissing (held self.old) name.now (Rose (faults self.old) (faults self.new)) }
-        ensures missing { IfSome (held self.old) (λ files. files name.now ≡ None → SaysMissing result) }
+        ensures missing { IfSome (held self.old) (λ files.
+            files name.now ≡ None → SaysMissing result) }
         ensures too_long { IsErrOf result FileFault.TooLong →
             IsFront (held self.old) name.now into.new.items }
         ensures nothing { LeavesNothing result into.new.items }
 
         // Which reads fail. A name that isn't held is missing all the same.
-        ensures plan { plan self.new ≡ option_map after_call (plan self.old) }
-        ensures planned { IsErrOf result FileFault.Failed → IfSome (plan self.old) FailsNext }
-        ensures fails { IfSome (plan self.old) (λ p. FailsNext p → FailsIfHeld (held self.old) name.now result) }
+        ensures plan { plan self.new ≡ after_one (plan self.old) }
+        ensures planned { IsErrOf result FileFault.Failed → IsPlanned (plan self.old) }
+        ensures fails { IfSome (plan self.old) (λ p.
+            FailsNext p → FailsIfHeld (held self.old) name.now result) }
 
         // When the count rises.
-        ensures failed { IsErrOf result FileFault.Failed → Rose (faults self.old) (faults self.new) }
+        ensures failed { IsErrOf result FileFault.Failed →
+            Rose (faults self.old) (faults self.new) }
         ensures untold { IsErrOf result FileFault.TooLong →
             MatchOption (held self.old) (Rose (faults self.old) (faults self.new)) (λ _. ⊤) }
-        ensures keeps_count { KeepsCount (held self.old) result (faults self.new ≡ faults self.old) }
+        ensures keeps_count { KeepsCount (held self.old) result
+            (faults self.new ≡ faults self.old) }
         ensures never_falls { faults self.old ≤ faults self.new }
         ensures last { last self.new ≡ last_after result name.now (last self.old) }
         ensures calm { is_calm self.old → is_calm self.new × (faults self.new ≡ faults self.old) };

@@ -54,7 +54,8 @@ impl MemFiles {
         ensures held { ⟦<MemFiles as Files>⟧.held result ≡ Some (files_of held) }
         ensures faults { ⟦<MemFiles as Files>⟧.faults result ≡ 0 }
         ensures last { ⟦<MemFiles as Files>⟧.last result ≡ [] }
-        ensures plan { ⟦<MemFiles as Files>⟧.plan result ≡ Some (record { to_fail = fails.items; made = 0 }) }
+        ensures plan { ⟦<MemFiles as Files>⟧.plan result
+            ≡ Some (record { to_fail = fails.items; made = 0 }) }
         ensures calm { fails.items ≡ [] → ⟦<MemFiles as Files>⟧.is_calm result }
     {
         MemFiles {
@@ -120,7 +121,8 @@ impl MemSink {
     pub fn new(alloc: Global, fails: Vec<u64>) -> Self
         ensures taken { ⟦<MemSink as Sink>⟧.taken result ≡ Some [] }
         ensures faults { ⟦<MemSink as Sink>⟧.faults result ≡ 0 }
-        ensures plan { ⟦<MemSink as Sink>⟧.plan result ≡ Some (record { to_fail = fails.items; made = 0 }) }
+        ensures plan { ⟦<MemSink as Sink>⟧.plan result
+            ≡ Some (record { to_fail = fails.items; made = 0 }) }
         ensures calm { fails.items ≡ [] → ⟦<MemSink as Sink>⟧.is_calm result }
     {
         MemSink {

@@ -1,15 +1,16 @@
 // What a call owes: a status, and the text that is put for it.
 
-ghost use Rattle.std.specs.Prelude.{◌≡◌, ◌≤◌, length, IfOk, IfSome};
+ghost use Rattle.std.specs.Prelude.{⊤, ◌≡◌, ◌≤◌, length, IfOk, IfSome};
 ghost use Rattle.je_top.specs.Counts.{Rose, Grew};
-ghost use Rattle.je_top.specs.Outcome.{asked_file, IsOwed, IsOwedForName, IsOwedForBytes};
+ghost use Rattle.je_top.specs.Files.{file_limit};
+ghost use Rattle.je_top.specs.Outcome.{asked_file, AsksFor, IsOwed, IsOwedForName, IsOwedForBytes};
+ghost use Rattle.je_top.specs.Plan.{after_one, after_reads, FailsNext, IsPlanned};
 
-use crate::FILE_LIMIT;
 use crate::files::{FileFault, Files};
 use crate::status::Status;
 use crate::texts::{name_line, reply_line};
 use crate::words::file_to_run;
-use je_core::Memory;
+use je_base::Memory;
 use one_run::{Answer, answer_of};
 use std::alloc::Global;
 
@@ -26,9 +27,17 @@ pub fn outcome_of<F: Files>(
     words: &[String],
     files: &mut F,
 ) -> Result<Outcome, Memory>
-    ensures owed { IfOk result (λ o. IsOwed (F.held files.old) (Rose (F.faults files.old) (F.faults files.new))
+    ensures owed { IfOk result (λ o. IsOwed (F.held files.old)
+        (Rose (F.faults files.old) (F.faults files.new))
         (asked_file words.now) o.status o.text.items) }
-    ensures last { IfOk result (λ o. o.status ≡ Status.ReadFault → asked_file words.now ≡ Some (F.last files.new)) }
+    ensures last { IfOk result (λ o. o.status ≡ Status.ReadFault
+        → asked_file words.now ≡ Some (F.last files.new)) }
+    ensures one_read { F.plan files.new ≡ after_reads (asked_file words.now) (F.plan files.old) }
+    ensures planned { IfOk result (λ o.
+        o.status ≡ Status.ReadFault → IsPlanned (F.plan files.old)) }
+    ensures fails { IfSome (F.plan files.old) (λ p. IfSome (F.held files.old) (λ told.
+        FailsNext p → AsksFor (asked_file words.now) told (λ _. ⊤)
+        → IfOk result (λ o. o.status ≡ Status.ReadFault))) }
     ensures grew { IfOk result (λ o. IfSome (F.held files.old) (λ _.
         Grew (F.faults files.old) (F.faults files.new) → o.status ≡ Status.ReadFault)) }
     ensures held { F.held files.new ≡ F.held files.old }
@@ -53,6 +62,12 @@ fn outcome_for_name<F: Files>(alloc: Global, name: &str, files: &mut F) -> Resul
     ensures owed { IfOk result (λ o. IsOwedForName (F.held files.old)
         (Rose (F.faults files.old) (F.faults files.new)) name.now o.status o.text.items) }
     ensures last { IfOk result (λ o. o.status ≡ Status.ReadFault → F.last files.new ≡ name.now) }
+    ensures one_read { F.plan files.new ≡ after_one (F.plan files.old) }
+    ensures planned { IfOk result (λ o.
+        o.status ≡ Status.ReadFault → IsPlanned (F.plan files.old)) }
+    ensures fails { IfSome (F.plan files.old) (λ p. IfSome (F.held files.old) (λ told.
+        FailsNext p → IfSome (told name.now) (λ _.
+        IfOk result (λ o. o.status ≡ Status.ReadFault)))) }
     ensures grew { IfOk result (λ o. IfSome (F.held files.old) (λ _.
         Grew (F.faults files.old) (F.faults files.new) → o.status ≡ Status.ReadFault)) }
     ensures held { F.held files.new ≡ F.held files.old }
@@ -81,7 +96,7 @@ fn outcome_for_name<F: Files>(alloc: Global, name: &str, files: &mut F) -> Resul
 
 /// What is owed for the bytes of a file.
 fn outcome_for_bytes(alloc: Global, name: &str, bytes: &[u8]) -> Result<Outcome, Memory>
-    requires { length bytes.now ≤ FILE_LIMIT }
+    requires { length bytes.now ≤ file_limit }
     ensures { IfOk result (λ o. IsOwedForBytes name.now bytes.now o.status o.text.items) }
 {
     match answer_of(alloc, bytes)? {

@@ -2,6 +2,7 @@
 // a terminal shows. They are trusted to read what is there and to write what they are given.
 
 ghost use Rattle.std.specs.Prelude.{◌≡◌, ◌≤◌, ◌+◌, None, OnOk, IsErrOf, vec_len, string_bytes};
+ghost use Rattle.je_top.specs.Files.{file_limit};
 
 use crate::FILE_LIMIT;
 use crate::files::{FileFault, Files};
@@ -79,8 +80,8 @@ impl<'a, R: SystemFiles> Files for RealFiles<'a, R> {
 /// Opens a file and reads it to its end, or to one byte past the limit.
 fn read_file<R: SystemFiles>(runtime: &R, name: &str, into: &mut Vec<u8>) -> Result<(), FileFault>
     requires { vec_len into.old ≡ 0 }
-    ensures ok { OnOk result (vec_len into.new ≤ FILE_LIMIT) }
-    ensures too_long { IsErrOf result FileFault.TooLong → vec_len into.new ≡ FILE_LIMIT + 1 }
+    ensures ok { OnOk result (vec_len into.new ≤ file_limit) }
+    ensures too_long { IsErrOf result FileFault.TooLong → vec_len into.new ≡ file_limit + 1 }
 {
     match fs::open(runtime, name) {
         Ok(mut file) => read_capped(&mut file, into),
@@ -95,8 +96,8 @@ fn read_file<R: SystemFiles>(runtime: &R, name: &str, into: &mut Vec<u8>) -> Res
 /// Reads to the end, or to one byte past the limit.
 fn read_capped<R: Read>(reader: &mut R, into: &mut Vec<u8>) -> Result<(), FileFault>
     requires { vec_len into.old ≡ 0 }
-    ensures ok { OnOk result (vec_len into.new ≤ FILE_LIMIT) }
-    ensures too_long { IsErrOf result FileFault.TooLong → vec_len into.new ≡ FILE_LIMIT + 1 }
+    ensures ok { OnOk result (vec_len into.new ≤ file_limit) }
+    ensures too_long { IsErrOf result FileFault.TooLong → vec_len into.new ≡ file_limit + 1 }
 {
     let mut buffer = [0u8; 4096];
     for _ in 0..u64::MAX {

@@ -1,9 +1,9 @@
 // Where text goes.
 
-ghost use Rattle.std.specs.Prelude.{◌≡◌, ◌≤◌, ℕ, List, OnOk, IfSome, IsErrOf, option_map};
+ghost use Rattle.std.specs.Prelude.{◌≡◌, ◌≤◌, ℕ, List, OnOk, IfSome, IsErrOf};
 ghost use Rattle.std.specs.declared.option.Option.{Option};
 ghost use Rattle.je_top.specs.Counts.{Rose};
-ghost use Rattle.je_top.specs.Plan.{Plan, after_call, FailsNext};
+ghost use Rattle.je_top.specs.Plan.{Plan, after_one, IsPlanned, FailsNext};
 ghost use Rattle.je_top.specs.Sink.{grown, GrewByFront};
 
 use thiserror::Error;
@@ -42,13 +42,16 @@ pub trait Sink {
         ensures memory { IsErrOf result SinkFault.Memory → taken self.new ≡ taken self.old }
 
         // Which puts fail. A put that was to fail takes nothing.
-        ensures plan { plan self.new ≡ option_map after_call (plan self.old) }
-        ensures planned { IsErrOf result SinkFault.Failed → IfSome (plan self.old) FailsNext }
-        ensures fails { IfSome (plan self.old) (λ p. FailsNext p → IsErrOf result SinkFault.Failed) }
-        ensures nothing { IsErrOf result SinkFault.Failed → IfSome (plan self.old) (λ _. taken self.new ≡ taken self.old) }
+        ensures plan { plan self.new ≡ after_one (plan self.old) }
+        ensures planned { IsErrOf result SinkFault.Failed → IsPlanned (plan self.old) }
+        ensures fails { IfSome (plan self.old) (λ p.
+            FailsNext p → IsErrOf result SinkFault.Failed) }
+        ensures nothing { IsErrOf result SinkFault.Failed →
+            IfSome (plan self.old) (λ _. taken self.new ≡ taken self.old) }
 
         // When the count rises.
-        ensures failed { IsErrOf result SinkFault.Failed → Rose (faults self.old) (faults self.new) }
+        ensures failed { IsErrOf result SinkFault.Failed →
+            Rose (faults self.old) (faults self.new) }
         ensures ok_count { OnOk result (faults self.new ≡ faults self.old) }
         ensures memory_count { IsErrOf result SinkFault.Memory → faults self.new ≡ faults self.old }
         ensures never_falls { faults self.old ≤ faults self.new }

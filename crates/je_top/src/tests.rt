@@ -7,7 +7,7 @@ ghost use Rattle.je_top.specs.Outcome.{asked_file, AsksFor, CanRun};
 use crate::{
     FILE_LIMIT, FileFault, Files, MemFiles, MemSink, RealFiles, RealSink, Sink, Status, joee,
 };
-use je_core::Memory;
+use je_base::Memory;
 use std::alloc::Global;
 use std::collections::BTreeMap;
 use std::test::Fail;

@@ -4,7 +4,7 @@ ghost use Rattle.std.specs.Prelude.{◌≡◌, ◌++◌, codes, IfOk};
 ghost use Rattle.je_top.specs.Texts.{reply_text};
 
 use itoa::Buffer;
-use je_core::Memory;
+use je_base::Memory;
 use std::alloc::Global;
 
 /// A word that ends in a space, a file's name and LF.

@@ -1,9 +1,11 @@
 // The top call.
 
-ghost use Rattle.std.specs.Prelude.{◌≡◌, ◌≤◌, ◌↔◌, ◌⊎◌, IfSome, IfNone};
+ghost use Rattle.std.specs.Prelude.{⊤, ◌≡◌, ◌≤◌, ◌↔◌, ◌⊎◌, IfSome, IfNone};
 ghost use Rattle.je_top.specs.Counts.{Rose, Grew};
 ghost use Rattle.je_top.specs.Files.{IsTooLong};
-ghost use Rattle.je_top.specs.Outcome.{asked_file, AsksForNone, AsksFor, CanRun, CannotRun, UnlessCut, UnlessFailed, Puts, PutsFront};
+ghost use Rattle.je_top.specs.Outcome.{asked_file, AsksForNone, AsksFor, CanRun, CannotRun};
+ghost use Rattle.je_top.specs.Outcome.{UnlessMemory, UnlessCut, UnlessFailed, Puts, PutsFront};
+ghost use Rattle.je_top.specs.Plan.{after_one, after_reads, FailsNext, IsPlanned};
 
 use crate::files::Files;
 use crate::outcome::outcome_of;
@@ -26,10 +28,12 @@ pub fn joee<F: Files, O: Sink>(
     out: &mut O,
 ) -> Status
     // What was put.
-    ensures text { UnlessCut result (Puts (F.held files.old) (Rose (F.faults files.old) (F.faults files.new))
+    ensures text { UnlessCut result (Puts (F.held files.old)
+        (Rose (F.faults files.old) (F.faults files.new))
         (asked_file words.now) result (O.taken out.old) (O.taken out.new)) }
     ensures front { result ≡ Status.WriteFault
-        → PutsFront (F.held files.old) (Rose (F.faults files.old) (F.faults files.new))
+        → PutsFront (F.held files.old)
+        (Rose (F.faults files.old) (F.faults files.new))
         (asked_file words.now) (O.taken out.old) (O.taken out.new) }
     ensures memory { result ≡ Status.Memory → O.taken out.new ≡ O.taken out.old }
 
@@ -45,9 +49,11 @@ pub fn joee<F: Files, O: Sink>(
         (result ≡ Status.Ok) ↔ AsksFor (asked_file words.now) told CanRun)) }
 
     // Faults come only where a count rose, and where one grew nothing else comes.
-    ensures read_fault { result ≡ Status.ReadFault → Rose (F.faults files.old) (F.faults files.new) }
+    ensures read_fault { result ≡ Status.ReadFault
+        → Rose (F.faults files.old) (F.faults files.new) }
     ensures last { result ≡ Status.ReadFault → asked_file words.now ≡ Some (F.last files.new) }
-    ensures read_grew { IfSome (F.held files.old) (λ _. Grew (F.faults files.old) (F.faults files.new)
+    ensures read_grew { IfSome (F.held files.old) (λ _.
+        Grew (F.faults files.old) (F.faults files.new)
         → UnlessCut result (result ≡ Status.ReadFault)) }
     ensures not_there_untold { result ≡ Status.NotThere
         → IfNone (F.held files.old) (Rose (F.faults files.old) (F.faults files.new)) }
@@ -56,8 +62,20 @@ pub fn joee<F: Files, O: Sink>(
     ensures write_fault { result ≡ Status.WriteFault → Rose (O.faults out.old) (O.faults out.new) }
     ensures write_grew { Grew (O.faults out.old) (O.faults out.new) → result ≡ Status.WriteFault }
 
+    // How often is read and put, and which reads and puts fail.
+    ensures one_read { F.plan files.new ≡ after_reads (asked_file words.now) (F.plan files.old) }
+    ensures one_put { UnlessMemory result (O.plan out.new ≡ after_one (O.plan out.old)) }
+    ensures planned_read { result ≡ Status.ReadFault → IsPlanned (F.plan files.old) }
+    ensures planned_put { result ≡ Status.WriteFault → IsPlanned (O.plan out.old) }
+    ensures read_fails { IfSome (F.plan files.old) (λ p. IfSome (F.held files.old) (λ told.
+        FailsNext p → AsksFor (asked_file words.now) told (λ _. ⊤)
+        → UnlessCut result (result ≡ Status.ReadFault))) }
+    ensures put_fails { IfSome (O.plan out.old) (λ p. FailsNext p
+        → UnlessMemory result (result ≡ Status.WriteFault)) }
+
     // A One that is held runs, where no count of faults rose.
-    ensures completes { IfSome (F.held files.old) (λ told. AsksFor (asked_file words.now) told CanRun
+    ensures completes { IfSome (F.held files.old) (λ told.
+        AsksFor (asked_file words.now) told CanRun
         → ¬ Rose (F.faults files.old) (F.faults files.new)
         → ¬ Rose (O.faults out.old) (O.faults out.new)
         → (result ≡ Status.Ok) ⊎ (result ≡ Status.Memory)) }

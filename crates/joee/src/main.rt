@@ -4,7 +4,7 @@
 //! output and the words of the command line, and ends with the number of the status.
 #![tactic(auto)]
 
-use je_core::Memory;
+use je_base::Memory;
 use je_top::{RealFiles, RealSink, Status, joee};
 use std::alloc::Global;
 use std::env;
