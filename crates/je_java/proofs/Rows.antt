@@ -13,6 +13,8 @@ use Rattle.je_core.specs.declared.program.Field.{Field as FieldOf}
 use Rattle.je_core.specs.declared.program.Local.{Local as LocalOf}
 use Rattle.je_core.specs.declared.expr.BinOp.TheVariants.{Add, Sub}
 use Rattle.je_core.specs.Core.{Core, CoreForm, Const, Local, This, Field, Assign, Binary, CallVirtual, CallExact, New, CoreStmt, CoreStmtForm, Block, Do, Return, CoreMethod, CoreProgram, node, stmt, cores, maybe_core, core_stmts}
+use Rattle.je_java.specs.declared.call.Receiver.TheVariants as receiver
+use Rattle.je_java.specs.Raised.{library_class, null_pointer}
 use Rattle.je_java.specs.World.{World}
 use Rattle.je_java.specs.Steps.{State, Outside, Answer, Done, Spent, Wrong}
 use Rattle.je_java.specs.Meaning.{java, meanings, call}
@@ -76,7 +78,7 @@ nothing = record {}
 
 -- a call of the class's first method, without a receiver and with 1,000,000 units
 abbrev run : List CoreMethod → List Value → Answer
-run methods given = call (program methods) 1000000 (record { 0 = 0 }) 0 Null given (world []) nothing
+run methods given = call (program methods) 1000000 receiver.None (record { 0 = 0 }) 0 given (world []) nothing
 
 abbrev pub after : List Obj → ℕ → ℕ → State
 after objects units begun = record {
@@ -87,7 +89,7 @@ after objects units begun = record {
 }
 
 -- int f() { return 1 + 2; }, folded: Block, Return, Const
-folded : run (method true int [] (body (gives (constant (Int (pos 3))) ∷ [])) ∷ []) [] ≡ Done (Int (pos 3)) (after [] 999997 3)
+folded : run (method true int [] (body (gives (constant (Int (pos 3))) ∷ [])) ∷ []) [] ≡ Done (Some (Int (pos 3))) (after [] 999997 3)
 unfolding java meanings opened
 folded = refl
 
@@ -96,16 +98,16 @@ abbrev counts : CoreStmt
 counts = does (expr (Assign (local 0) (increased (local 0))))
 
 -- int f(int n) { n = n + 1; return n; }, which wraps: the Block, 5 more, Return and Local
-on_local : run (method true int (local_of int ∷ []) (body (counts ∷ gives (local 0) ∷ [])) ∷ []) (Int (pos 2147483647) ∷ []) ≡ Done (Int (negsuc 2147483647)) (after [] 999992 8)
+on_local : run (method true int (local_of int ∷ []) (body (counts ∷ gives (local 0) ∷ [])) ∷ []) (Int (pos 2147483647) ∷ []) ≡ Done (Some (Int (negsuc 2147483647))) (after [] 999992 8)
 unfolding java meanings opened int_wrap
 on_local = refl
 
 -- a local that isn't assigned begins at its default, and so does the value of a body that ends without a return
-no_return : run (method true int (local_of int ∷ []) (body []) ∷ []) [] ≡ Done (Int (pos 0)) (after [] 999999 1)
+no_return : run (method true int (local_of int ∷ []) (body []) ∷ []) [] ≡ Done (Some (Int (pos 0))) (after [] 999999 1)
 unfolding java meanings opened
 no_return = refl
 
-at_default : run (method true int (local_of int ∷ []) (body (gives (local 0) ∷ [])) ∷ []) [] ≡ Done (Int (pos 0)) (after [] 999997 3)
+at_default : run (method true int (local_of int ∷ []) (body (gives (local 0) ∷ [])) ∷ []) [] ≡ Done (Some (Int (pos 0))) (after [] 999997 3)
 unfolding java meanings opened
 at_default = refl
 
@@ -119,7 +121,7 @@ made_a = expr (New (record { 0 = 0 }) 1 (cores []))
 
 -- static A f() { return new A(); }: Block, Return, New, the 2 slots of A, and the constructor's Block
 makes : run (method true class_a [] (body (gives made_a ∷ [])) ∷ constructor ∷ []) [] ≡
-    Done (Ref (record { 0 = 0 })) (after (Instance (record { 0 = 0 }) (Int (pos 0) ∷ Int (pos 0) ∷ []) ∷ []) 999994 4)
+    Done (Some (Ref (record { 0 = 0 }))) (after (Instance (record { 0 = 0 }) (Int (pos 0) ∷ Int (pos 0) ∷ []) ∷ []) 999994 4)
 unfolding java meanings opened
 makes = refl
 
@@ -134,18 +136,18 @@ abbrev an_object : List Value → List Obj
 an_object slots = Instance (record { 0 = 0 }) slots ∷ []
 
 -- void f() { m = m + 1; } on an object: the Block and 7 more
-on_field : call (program (method false void [] (body (counts_field ∷ [])) ∷ [])) 1000000 (record { 0 = 0 }) 0 (Ref (record { 0 = 0 })) [] (world (an_object (Int (pos 5) ∷ Int (pos 7) ∷ []))) nothing ≡
-    Done Null (after (an_object (Int (pos 5) ∷ Int (pos 8) ∷ [])) 999992 8)
+on_field : call (program (method false void [] (body (counts_field ∷ [])) ∷ [])) 1000000 (receiver.Object (record { 0 = 0 })) (record { 0 = 0 }) 0 [] (world (an_object (Int (pos 5) ∷ Int (pos 7) ∷ []))) nothing ≡
+    Done None (after (an_object (Int (pos 5) ∷ Int (pos 8) ∷ [])) 999992 8)
 unfolding java meanings opened int_wrap
 on_field = refl
 
 -- as many units as it takes, and one fewer
-just_enough : call (program (method false void [] (body (counts_field ∷ [])) ∷ [])) 8 (record { 0 = 0 }) 0 (Ref (record { 0 = 0 })) [] (world (an_object (Int (pos 5) ∷ Int (pos 7) ∷ []))) nothing ≡
-    Done Null (after (an_object (Int (pos 5) ∷ Int (pos 8) ∷ [])) 0 8)
+just_enough : call (program (method false void [] (body (counts_field ∷ [])) ∷ [])) 8 (receiver.Object (record { 0 = 0 })) (record { 0 = 0 }) 0 [] (world (an_object (Int (pos 5) ∷ Int (pos 7) ∷ []))) nothing ≡
+    Done None (after (an_object (Int (pos 5) ∷ Int (pos 8) ∷ [])) 0 8)
 unfolding java meanings opened int_wrap
 just_enough = refl
 
-too_few : call (program (method true class_a [] (body (gives made_a ∷ [])) ∷ constructor ∷ [])) 4 (record { 0 = 0 }) 0 Null [] (world []) nothing ≡
+too_few : call (program (method true class_a [] (body (gives made_a ∷ [])) ∷ constructor ∷ [])) 4 receiver.None (record { 0 = 0 }) 0 [] (world []) nothing ≡
     Spent (after [] 1 3)
 unfolding java meanings opened
 too_few = refl
@@ -157,8 +159,8 @@ caller receiver = method true int (local_of class_a ∷ []) (body (gives (expr (
 abbrev called : CoreMethod
 called = method false int (local_of int ∷ local_of int ∷ []) (body (does (expr (Assign last_field (local 0))) ∷ gives (expr (Binary Sub last_field (local 1))) ∷ []))
 
-on_object : call (program (caller (local 0) ∷ called ∷ [])) 1000000 (record { 0 = 0 }) 0 Null (Ref (record { 0 = 0 }) ∷ []) (world (an_object (Int (pos 5) ∷ Int (pos 7) ∷ []))) nothing ≡
-    Done (Int (negsuc 0)) (after (an_object (Int (pos 5) ∷ Int (pos 1) ∷ [])) 999984 16)
+on_object : call (program (caller (local 0) ∷ called ∷ [])) 1000000 receiver.None (record { 0 = 0 }) 0 (Ref (record { 0 = 0 }) ∷ []) (world (an_object (Int (pos 5) ∷ Int (pos 7) ∷ []))) nothing ≡
+    Done (Some (Int (negsuc 0))) (after (an_object (Int (pos 5) ∷ Int (pos 1) ∷ [])) 999984 16)
 unfolding java meanings opened int_wrap
 on_object = refl
 
@@ -166,11 +168,17 @@ on_object = refl
 abbrev recursive : CoreMethod
 recursive = method true int (local_of int ∷ []) (body (gives (expr (CallExact (maybe_core None) (record { 0 = 0 }) 0 (cores (local 0 ∷ [])))) ∷ []))
 
-never_ends : call (program (recursive ∷ [])) 41 (record { 0 = 0 }) 0 Null (Int (pos 7) ∷ []) (world []) nothing ≡ Spent (record (after [] 0 41) { own = record { this = Null; locals = Int (pos 7) ∷ [] } })
+never_ends : call (program (recursive ∷ [])) 41 receiver.None (record { 0 = 0 }) 0 (Int (pos 7) ∷ []) (world []) nothing ≡ Spent (record (after [] 0 41) { own = record { this = Null; locals = Int (pos 7) ∷ [] } })
 unfolding java meanings opened
 never_ends = refl
 
 -- null has no slots: there is no NullPointerException in a program of one class
-on_null : call (program (caller (local 0) ∷ called ∷ [])) 1000000 (record { 0 = 0 }) 0 Null (Null ∷ []) (world []) nothing ≡ Wrong
-unfolding java meanings opened
+on_null : call (program (caller (local 0) ∷ called ∷ [])) 1000000 receiver.None (record { 0 = 0 }) 0 (Null ∷ []) (world []) nothing ≡ Wrong
+unfolding java meanings opened null_pointer library_class
 on_null = refl
+
+-- a new A from outside: its 2 slots, and its constructor's Block
+starts : call (program (constructor ∷ [])) 10 receiver.Fresh (record { 0 = 0 }) 0 [] (world []) nothing ≡
+    Done (Some (Ref (record { 0 = 0 }))) (after (an_object (Int (pos 0) ∷ Int (pos 0) ∷ [])) 7 1)
+unfolding java meanings opened
+starts = refl

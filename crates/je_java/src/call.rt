@@ -1,0 +1,23 @@
+// What a call names, and what it comes to.
+
+use je_core::{ClassId, ObjId};
+
+/// What a call from outside is made on.
+#[derive(Clone, Copy, PartialEq, Eq, Debug)]
+pub enum Receiver {
+    /// Nothing: the method is static.
+    None,
+    /// The object of that number. The method that its class has for the named one runs.
+    Object(ObjId),
+    /// A new instance of the class, whose constructor the method is. The call answers that object.
+    Fresh,
+}
+
+/// The method that a call comes to.
+#[derive(Clone, Copy, PartialEq, Eq, Debug)]
+pub struct Target {
+    /// The class that declares it.
+    pub class: ClassId,
+    /// Its place among those that the class declares.
+    pub method: u32,
+}
