@@ -1,8 +1,9 @@
 pub mod Types
 pub mod Trees
+pub mod Parts
 pub mod View
 pub mod Height
 pub mod Size
 pub mod Spans
 pub mod Renumbering
-pub mod Seen
+pub mod way

@@ -1,11 +1,12 @@
 -- JLS 4, 6.2, 8.1.2, 8.3.1, 8.4.1: names, types, type parameters and formal parameters as they are written, without
 -- where they lie in memory.
-use Rattle.std.specs.Prelude.{ℕ, suc, max, List, [], ◌∷◌, Bool, Option, Some, None}
+use Rattle.std.specs.Prelude.{ℕ, suc, max, List, [], ◌∷◌, map, Bool, Option, option_map}
 use Rattle.je_base.specs.declared.span.Span.{Span}
 use Rattle.je_ast.specs.declared.name.Identifier.{Identifier}
 use Rattle.je_ast.specs.declared.name.Name.{Name}
 use Rattle.je_ast.specs.declared.ty_name.Primitive.{Primitive}
-use Rattle.je_ast.specs.declared.ty_name.TyName.{TyName, Primitive as PrimitiveName, Class', Row_of-TyName, end_of-TyName, more_of-TyName}
+use Rattle.je_ast.specs.declared.ty_name.TyName.{TyName, fold-TyName, out-TyName}
+use Rattle.je_ast.specs.declared.ty_name.TyName.TheOpen as node
 use Rattle.je_ast.specs.declared.decl.TypeParam.{TypeParam}
 use Rattle.je_ast.specs.declared.decl.Formal.{Formal}
 
@@ -26,22 +27,27 @@ mutual
     no_types : TypeNames
     more_types : TypeName → TypeNames → TypeNames
 
-abbrev mutual
-  pub type_view : TyName → TypeName
-  type_view (PrimitiveName p dims s) = primitive p dims s
-  type_view (Class' n shape all dims s) = class_type (name_view n) (type_views all) dims s
+abbrev pub type_names : List TypeName → TypeNames
+type_names [] = no_types
+type_names (t ∷ ts) = more_types t (type_names ts)
 
-  pub type_views : {m : _} → Row_of-TyName m → TypeNames
-  type_views end_of-TyName = no_types
-  type_views (more_of-TyName t rest) = more_types (type_view t) (type_views rest)
+-- one layer, whose arguments are seen as `see` says
+abbrev pub type_layer : {A : Type 0} → (A → TypeName) → node.TyName-F A → TypeName
+type_layer see (node.Primitive p dims s) = primitive p dims s
+type_layer see (node.Class n args dims s) = class_type (name_view n) (type_names (map see args.items)) dims s
+
+unfoldable pub type_view : TyName → TypeName
+type_view t = fold-TyName TypeName (type_layer (λ t. t)) t
+
+-- the same, one layer opened
+abbrev pub type_node_view : TyName → TypeName
+type_node_view t = type_layer type_view (out-TyName t)
 
 abbrev pub type_views_of : List TyName → TypeNames
-type_views_of [] = no_types
-type_views_of (t ∷ ts) = more_types (type_view t) (type_views_of ts)
+type_views_of ts = type_names (map type_view ts)
 
 abbrev pub type_view_of_option : Option TyName → Option TypeName
-type_view_of_option None = None
-type_view_of_option (Some t) = Some (type_view t)
+type_view_of_option t = option_map type_view t
 
 pub record TypeParameter : Type 0 where
   pub name : Identifier

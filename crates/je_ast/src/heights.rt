@@ -1,9 +1,8 @@
 // How high a tree is. The walks stop counting at the greatest u32, so that they ask nothing of the tree.
 
 ghost use Rattle.std.specs.Prelude.{◌≡◌, suc, ◌+◌, ◌<◌, ◌^◌, min, map};
-ghost use Rattle.je_ast.specs.Types.{type_views_of, type_view_of_option, parameter_view, formal_view, type_height as the_type_height, types_height as the_types_height};
-ghost use Rattle.je_ast.specs.View.{views_of, view_of_option, variable_views_of, statement_views_of, label_views_of, group_views_of, catch_views_of, member_views_of, declaration_view, unit_view};
-ghost use Rattle.je_ast.specs.Seen.{type_seen, expression_seen, for_initializer_seen, statement_seen, constructor_invocation_seen, member_seen, declaration_seen};
+ghost use Rattle.je_ast.specs.Types.{type_view, type_node_view, type_views_of, type_view_of_option, parameter_view, formal_view, type_height as the_type_height, types_height as the_types_height};
+ghost use Rattle.je_ast.specs.View.{view, statement_view, for_initializer_view, constructor_invocation_view, member_view, node_view, statement_node_view, for_initializer_node_view, constructor_invocation_node_view, member_node_view, declaration_node_view, views_of, view_of_option, variable_views_of, statement_views_of, label_views_of, group_views_of, catch_views_of, member_views_of, declaration_view, unit_view};
 ghost use Rattle.je_ast.specs.Height.{type_height_if, parameters_height, formals_height as the_formals_height, height as the_height, heights, height_if, variables_height, for_initializer_height, statement_height, statements_height, labels_height as the_labels_height, groups_height as the_groups_height, catches_height as the_catches_height, constructor_invocation_height, member_height as the_member_height, members_height as the_members_height, declaration_height, unit_height};
 ghost use Rattle.je_ast.specs.Size.{unit_size};
 
@@ -20,9 +19,16 @@ fn above(parts: u32) -> u32
 }
 
 #[cycle(types)]
-#[tactic(auto, using(crate::proofs::VariantsSeen::types_seen))]
+#[tactic(auto, using(crate::proofs::Views::type_is))]
 fn type_height(ty: &TyName) -> u32
-    ensures { result ≡ min (the_type_height (type_seen ty.now)) u32.MAX }
+    ensures { result ≡ min (the_type_height (type_view ty.now)) u32.MAX }
+{
+    type_height_here(ty)
+}
+
+#[cycle(types)]
+fn type_height_here(ty: &TyName) -> u32
+    ensures { result ≡ min (the_type_height (type_node_view ty.now)) u32.MAX }
 {
     match ty {
         TyName::Primitive { .. } => 1,
@@ -31,7 +37,6 @@ fn type_height(ty: &TyName) -> u32
 }
 
 #[cycle(types)]
-#[tactic(auto, unfolding(crate::specs::Seen::type_seen))]
 fn types_height(list: &[TyName]) -> u32
     ensures { result ≡ min (the_types_height (type_views_of list.now)) u32.MAX }
 {
@@ -42,7 +47,6 @@ fn types_height(list: &[TyName]) -> u32
     most
 }
 
-#[tactic(auto, unfolding(crate::specs::Seen::type_seen))]
 fn option_type_height(ty: &Option<TyName>) -> u32
     ensures { result ≡ min (type_height_if (type_view_of_option ty.now)) u32.MAX }
 {
@@ -62,7 +66,6 @@ fn params_height(list: &[TypeParam]) -> u32
     most
 }
 
-#[tactic(auto, unfolding(crate::specs::Seen::type_seen))]
 fn formals_height(list: &[Formal]) -> u32
     ensures { result ≡ min (the_formals_height (map formal_view list.now)) u32.MAX }
 {
@@ -74,9 +77,16 @@ fn formals_height(list: &[Formal]) -> u32
 }
 
 #[cycle(height)]
-#[tactic(auto, using(crate::proofs::VariantsSeen::expressions_seen))]
+#[tactic(auto, using(crate::proofs::Views::view_is))]
 fn expr_height(expr: &Expr) -> u32
-    ensures { result ≡ min (the_height (expression_seen expr.now)) u32.MAX }
+    ensures { result ≡ min (the_height (view expr.now)) u32.MAX }
+{
+    expr_height_here(expr)
+}
+
+#[cycle(height)]
+fn expr_height_here(expr: &Expr) -> u32
+    ensures { result ≡ min (the_height (node_view expr.now)) u32.MAX }
 {
     let parts = match expr {
         Expr::Literal { .. }
@@ -128,7 +138,6 @@ fn expr_height(expr: &Expr) -> u32
 }
 
 #[cycle(height)]
-#[tactic(auto, unfolding(crate::specs::Seen::expression_seen))]
 fn exprs_height(list: &[Expr]) -> u32
     ensures { result ≡ min (heights (views_of list.now)) u32.MAX }
 {
@@ -140,7 +149,6 @@ fn exprs_height(list: &[Expr]) -> u32
 }
 
 #[cycle(height)]
-#[tactic(auto, unfolding(crate::specs::Seen::expression_seen))]
 fn vars_height(list: &[Var]) -> u32
     ensures { result ≡ min (variables_height (variable_views_of list.now)) u32.MAX }
 {
@@ -154,9 +162,16 @@ fn vars_height(list: &[Var]) -> u32
 }
 
 #[cycle(height)]
-#[tactic(auto, using(crate::proofs::VariantsSeen::for_initializers_seen))]
+#[tactic(auto, using(crate::proofs::Views::for_initializer_is))]
 fn for_init_height(init: &ForInit) -> u32
-    ensures { result ≡ min (for_initializer_height (for_initializer_seen init.now)) u32.MAX }
+    ensures { result ≡ min (for_initializer_height (for_initializer_view init.now)) u32.MAX }
+{
+    for_init_height_here(init)
+}
+
+#[cycle(height)]
+fn for_init_height_here(init: &ForInit) -> u32
+    ensures { result ≡ min (for_initializer_height (for_initializer_node_view init.now)) u32.MAX }
 {
     match init {
         ForInit::Locals { ty, vars, .. } => type_height(ty).max(vars_height(vars)),
@@ -165,7 +180,6 @@ fn for_init_height(init: &ForInit) -> u32
 }
 
 #[cycle(height)]
-#[tactic(auto, unfolding(crate::specs::Seen::expression_seen))]
 fn option_expr_height(expr: &Option<Expr>) -> u32
     ensures { result ≡ min (height_if (view_of_option expr.now)) u32.MAX }
 {
@@ -176,9 +190,16 @@ fn option_expr_height(expr: &Option<Expr>) -> u32
 }
 
 #[cycle(height)]
-#[tactic(auto, using(crate::proofs::VariantsSeen::statements_seen))]
+#[tactic(auto, using(crate::proofs::Views::statement_is))]
 fn stmt_height(stmt: &Stmt) -> u32
-    ensures { result ≡ min (statement_height (statement_seen stmt.now)) u32.MAX }
+    ensures { result ≡ min (statement_height (statement_view stmt.now)) u32.MAX }
+{
+    stmt_height_here(stmt)
+}
+
+#[cycle(height)]
+fn stmt_height_here(stmt: &Stmt) -> u32
+    ensures { result ≡ min (statement_height (statement_node_view stmt.now)) u32.MAX }
 {
     match stmt {
         Stmt::Class { decl } => decl_height(decl),
@@ -256,13 +277,13 @@ fn stmt_height(stmt: &Stmt) -> u32
 
 #[cycle(height)]
 fn block_height(block: &Block) -> u32
-    ensures { result ≡ min (suc (statements_height (statement_views_of block.now.stmts.items))) u32.MAX }
+    ensures { result
+        ≡ min (suc (statements_height (statement_views_of block.now.stmts.items))) u32.MAX }
 {
     stmts_height(&block.stmts).saturating_add(1)
 }
 
 #[cycle(height)]
-#[tactic(auto, unfolding(crate::specs::Seen::statement_seen))]
 fn stmts_height(list: &[Stmt]) -> u32
     ensures { result ≡ min (statements_height (statement_views_of list.now)) u32.MAX }
 {
@@ -274,7 +295,6 @@ fn stmts_height(list: &[Stmt]) -> u32
 }
 
 #[cycle(height)]
-#[tactic(auto, unfolding(crate::specs::Seen::expression_seen))]
 fn labels_height(list: &[Label]) -> u32
     ensures { result ≡ min (the_labels_height (label_views_of list.now)) u32.MAX }
 {
@@ -310,9 +330,19 @@ fn catches_height(list: &[Catch]) -> u32
 }
 
 #[cycle(height)]
-#[tactic(auto, using(crate::proofs::VariantsSeen::constructor_invocations_seen))]
+#[tactic(auto, using(crate::proofs::Views::constructor_invocation_is))]
 fn call_height(call: &ConstructorCall) -> u32
-    ensures { result ≡ min (constructor_invocation_height (constructor_invocation_seen call.now)) u32.MAX }
+    ensures { result
+        ≡ min (constructor_invocation_height (constructor_invocation_view call.now)) u32.MAX }
+{
+    call_height_here(call)
+}
+
+#[cycle(height)]
+fn call_height_here(call: &ConstructorCall) -> u32
+    ensures { result
+        ≡ min (constructor_invocation_height (constructor_invocation_node_view call.now))
+        u32.MAX }
 {
     match call {
         ConstructorCall::Implicit => 0,
@@ -321,9 +351,16 @@ fn call_height(call: &ConstructorCall) -> u32
 }
 
 #[cycle(height)]
-#[tactic(auto, using(crate::proofs::VariantsSeen::members_seen))]
+#[tactic(auto, using(crate::proofs::Views::member_is))]
 fn member_height(member: &Member) -> u32
-    ensures { result ≡ min (the_member_height (member_seen member.now)) u32.MAX }
+    ensures { result ≡ min (the_member_height (member_view member.now)) u32.MAX }
+{
+    member_height_here(member)
+}
+
+#[cycle(height)]
+fn member_height_here(member: &Member) -> u32
+    ensures { result ≡ min (the_member_height (member_node_view member.now)) u32.MAX }
 {
     let parts = match member {
         Member::Type { decl } => return decl_height(decl),
@@ -358,7 +395,6 @@ fn member_height(member: &Member) -> u32
 }
 
 #[cycle(height)]
-#[tactic(auto, unfolding(crate::specs::Seen::member_seen))]
 fn members_height(list: &[Member]) -> u32
     ensures { result ≡ min (the_members_height (member_views_of list.now)) u32.MAX }
 {
@@ -370,9 +406,16 @@ fn members_height(list: &[Member]) -> u32
 }
 
 #[cycle(height)]
-#[tactic(auto, using(crate::proofs::VariantsSeen::declarations_seen))]
+#[tactic(auto, using(crate::proofs::Views::declaration_is))]
 fn decl_height(decl: &Decl) -> u32
-    ensures { result ≡ min (declaration_height (declaration_seen decl.now)) u32.MAX }
+    ensures { result ≡ min (declaration_height (declaration_view decl.now)) u32.MAX }
+{
+    decl_height_here(decl)
+}
+
+#[cycle(height)]
+fn decl_height_here(decl: &Decl) -> u32
+    ensures { result ≡ min (declaration_height (declaration_node_view decl.now)) u32.MAX }
 {
     let parts = match decl {
         Decl::Class {
@@ -400,7 +443,6 @@ fn decl_height(decl: &Decl) -> u32
     parts.saturating_add(1)
 }
 
-#[tactic(auto, unfolding(crate::specs::Seen::declaration_seen))]
 fn decls_height(list: &[Decl]) -> u32
     ensures { result ≡ min (unit_height (map declaration_view list.now)) u32.MAX }
 {

@@ -4,9 +4,12 @@
 //! them: `view` of an expression, `statement_view`, `member_view`, `declaration_view`, `unit_view` (`specs/View.antt`),
 //! which give the types of `specs/Trees.antt`. Over these stand `height`, `size` and `span_of` with their kin.
 //!
-//! A parser makes a tree without lists by its variant, whose view computes, and one with a list by its `make_` function,
-//! whose clause says the view. `height` is a unit's height, and `renumber` gives its names the numbers that they have among
-//! the names of all files.
+//! A view is the fold of one layer: what a node is seen as, with the views of its parts. Views stay shut in proofs, and
+//! `node_view` and its kin are the layer, which computes. So a parser makes a node by `make_expr(Expr::Binary { .. })` and its
+//! kin, whose clause says that the view of the result is the layer of the node, or by one of the functions for nodes with
+//! lists. A walk over a tree is two functions: one on the view, by `view_is` of `proofs/Views.antt`, which calls the
+//! other on the layer. `height` is a unit's height, and `renumber` gives its names the numbers that they have among the names
+//! of all files.
 #![tactic(auto)]
 
 mod decl;
@@ -24,9 +27,11 @@ pub use expr::{Expr, Literal};
 pub use heights::height;
 pub use making::{
     make_array_init, make_block, make_call, make_call_on, make_class, make_class_type,
-    make_constructor, make_explicit_call, make_field, make_for, make_initializer, make_interface,
-    make_local, make_locals, make_method, make_new, make_new_anonymous, make_new_array,
-    make_return, make_steps, make_super_call, make_switch, make_try, make_try_finally,
+    make_constructor, make_constructor_call, make_decl, make_explicit_call, make_expr,
+    make_expression_statement, make_field, make_for, make_for_init, make_initializer,
+    make_interface, make_local, make_locals, make_member, make_method, make_new,
+    make_new_anonymous, make_new_array, make_return, make_steps, make_stmt, make_super_call,
+    make_switch, make_try, make_try_finally, make_ty_name,
 };
 pub use name::{Identifier, Name};
 pub use operator::{BinaryOp, PostfixOp, PrefixOp};

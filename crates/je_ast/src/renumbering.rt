@@ -1,9 +1,8 @@
 // Other numbers for the names of a tree.
 
 ghost use Rattle.std.specs.Prelude.{◌≡◌, [], ◌∷◌, map, option_map};
-ghost use Rattle.je_ast.specs.Types.{name_view, type_views_of, type_view_of_option, parameter_view, formal_view};
-ghost use Rattle.je_ast.specs.View.{views_of, view_of_option, statement_views_of, variable_views_of, group_views_of, label_views_of, catch_views_of, member_views_of, block_view_of_option, declaration_view, unit_view};
-ghost use Rattle.je_ast.specs.Seen.{type_seen, expression_seen, statement_seen, for_initializer_seen, member_seen, constructor_invocation_seen, declaration_seen};
+ghost use Rattle.je_ast.specs.Types.{type_view, name_view, type_views_of, type_view_of_option, parameter_view, formal_view};
+ghost use Rattle.je_ast.specs.View.{views_of, view_of_option, statement_views_of, variable_views_of, group_views_of, label_views_of, catch_views_of, member_views_of, block_view_of_option, unit_view, view, statement_view, for_initializer_view, member_view, constructor_invocation_view, declaration_view};
 ghost use Rattle.je_ast.specs.Renumbering.{renumbered_identifier, renumbered_name, renumbered_type, renumbered_types, renumbered_parameter, renumbered_formal, renumbered_expression, renumbered_expressions, renumbered_expression_if, renumbered_statement, renumbered_statements, renumbered_for_initializer, renumbered_variables, renumbered_groups, renumbered_labels, renumbered_catches, renumbered_member, renumbered_members, renumbered_block_if, renumbered_constructor_invocation, renumbered_declaration, renumbered};
 
 use crate::decl::{ConstructorCall, Decl, Formal, Member, TypeParam, Unit};
@@ -54,9 +53,9 @@ fn renumber_names(list: &mut [Name], to: &[NameId])
 }
 
 #[cycle(types)]
-#[tactic(auto, using(crate::proofs::VariantsSeen::types_seen))]
+#[tactic(auto, using(crate::proofs::Views::type_is))]
 fn renumber_type(ty: &mut TyName, to: &[NameId])
-    ensures { type_seen ty.new ≡ renumbered_type to.now (type_seen ty.old) }
+    ensures { type_view ty.new ≡ renumbered_type to.now (type_view ty.old) }
 {
     if let TyName::Class { name, args, .. } = ty {
         renumber_name(name, to);
@@ -74,9 +73,9 @@ fn renumber_types(list: &mut [TyName], to: &[NameId])
     }
 }
 
-#[tactic(auto, unfolding(crate::specs::Seen::type_seen))]
 fn renumber_option_type(ty: &mut Option<TyName>, to: &[NameId])
-    ensures { type_view_of_option ty.new ≡ option_map (renumbered_type to.now) (type_view_of_option ty.old) }
+    ensures { type_view_of_option ty.new
+        ≡ option_map (renumbered_type to.now) (type_view_of_option ty.old) }
 {
     if let Some(ty) = ty {
         renumber_type(ty, to);
@@ -85,7 +84,8 @@ fn renumber_option_type(ty: &mut Option<TyName>, to: &[NameId])
 
 #[tactic(auto, using(crate::proofs::Went::walks))]
 fn renumber_params(list: &mut [TypeParam], to: &[NameId])
-    ensures { map parameter_view list.new ≡ map (renumbered_parameter to.now) (map parameter_view list.old) }
+    ensures { map parameter_view list.new
+        ≡ map (renumbered_parameter to.now) (map parameter_view list.old) }
 {
     for param in list.iter_mut() {
         renumber_identifier(&mut param.name, to);
@@ -104,9 +104,9 @@ fn renumber_formals(list: &mut [Formal], to: &[NameId])
 }
 
 #[cycle(trees)]
-#[tactic(auto, using(crate::proofs::VariantsSeen::expressions_seen))]
+#[tactic(auto, using(crate::proofs::Views::view_is))]
 fn renumber_expr(expr: &mut Expr, to: &[NameId])
-    ensures { expression_seen expr.new ≡ renumbered_expression to.now (expression_seen expr.old) }
+    ensures { view expr.new ≡ renumbered_expression to.now (view expr.old) }
 {
     match expr {
         Expr::Literal { .. } | Expr::This { .. } => {}
@@ -209,7 +209,6 @@ fn renumber_exprs(list: &mut [Expr], to: &[NameId])
 }
 
 #[cycle(trees)]
-#[tactic(auto, unfolding(crate::specs::Seen::expression_seen))]
 fn renumber_option_expr(expr: &mut Option<Expr>, to: &[NameId])
     ensures { view_of_option expr.new ≡ renumbered_expression_if to.now (view_of_option expr.old) }
 {
@@ -221,7 +220,8 @@ fn renumber_option_expr(expr: &mut Option<Expr>, to: &[NameId])
 #[cycle(trees)]
 #[tactic(auto, using(crate::proofs::Went::walks))]
 fn renumber_vars(list: &mut [Var], to: &[NameId])
-    ensures { variable_views_of list.new ≡ renumbered_variables to.now (variable_views_of list.old) }
+    ensures { variable_views_of list.new
+        ≡ renumbered_variables to.now (variable_views_of list.old) }
 {
     for var in list.iter_mut() {
         renumber_identifier(&mut var.name, to);
@@ -231,7 +231,8 @@ fn renumber_vars(list: &mut [Var], to: &[NameId])
 
 #[cycle(trees)]
 fn renumber_for_init(init: &mut ForInit, to: &[NameId])
-    ensures { for_initializer_seen init.new ≡ renumbered_for_initializer to.now (for_initializer_seen init.old) }
+    ensures { for_initializer_view init.new
+        ≡ renumbered_for_initializer to.now (for_initializer_view init.old) }
 {
     match init {
         ForInit::Locals { ty, vars, .. } => {
@@ -243,9 +244,9 @@ fn renumber_for_init(init: &mut ForInit, to: &[NameId])
 }
 
 #[cycle(trees)]
-#[tactic(auto, using(crate::proofs::VariantsSeen::statements_seen))]
+#[tactic(auto, using(crate::proofs::Views::statement_is))]
 fn renumber_stmt(stmt: &mut Stmt, to: &[NameId])
-    ensures { statement_seen stmt.new ≡ renumbered_statement to.now (statement_seen stmt.old) }
+    ensures { statement_view stmt.new ≡ renumbered_statement to.now (statement_view stmt.old) }
 {
     match stmt {
         Stmt::Block { block } => renumber_stmts(&mut block.stmts, to),
@@ -346,7 +347,8 @@ fn renumber_stmt(stmt: &mut Stmt, to: &[NameId])
 #[cycle(trees)]
 #[tactic(auto, using(crate::proofs::Went::walks))]
 fn renumber_stmts(list: &mut [Stmt], to: &[NameId])
-    ensures { statement_views_of list.new ≡ renumbered_statements to.now (statement_views_of list.old) }
+    ensures { statement_views_of list.new
+        ≡ renumbered_statements to.now (statement_views_of list.old) }
 {
     for stmt in list.iter_mut() {
         renumber_stmt(stmt, to);
@@ -355,7 +357,8 @@ fn renumber_stmts(list: &mut [Stmt], to: &[NameId])
 
 #[cycle(trees)]
 fn renumber_option_block(block: &mut Option<Block>, to: &[NameId])
-    ensures { block_view_of_option block.new ≡ renumbered_block_if to.now (block_view_of_option block.old) }
+    ensures { block_view_of_option block.new
+        ≡ renumbered_block_if to.now (block_view_of_option block.old) }
 {
     if let Some(block) = block {
         renumber_stmts(&mut block.stmts, to);
@@ -364,7 +367,8 @@ fn renumber_option_block(block: &mut Option<Block>, to: &[NameId])
 
 #[cycle(trees)]
 fn renumber_label(label: &mut Label, to: &[NameId])
-    ensures { label_views_of (label.new ∷ []) ≡ renumbered_labels to.now (label_views_of (label.old ∷ [])) }
+    ensures { label_views_of (label.new ∷ [])
+        ≡ renumbered_labels to.now (label_views_of (label.old ∷ [])) }
 {
     if let Label::Case { value } = label {
         renumber_expr(value, to);
@@ -405,9 +409,10 @@ fn renumber_catches(list: &mut [Catch], to: &[NameId])
 }
 
 #[cycle(trees)]
-#[tactic(auto, using(crate::proofs::VariantsSeen::constructor_invocations_seen))]
+#[tactic(auto, using(crate::proofs::Views::constructor_invocation_is))]
 fn renumber_call(call: &mut ConstructorCall, to: &[NameId])
-    ensures { constructor_invocation_seen call.new ≡ renumbered_constructor_invocation to.now (constructor_invocation_seen call.old) }
+    ensures { constructor_invocation_view call.new
+        ≡ renumbered_constructor_invocation to.now (constructor_invocation_view call.old) }
 {
     if let ConstructorCall::Explicit { args, .. } = call {
         renumber_exprs(args, to);
@@ -416,7 +421,7 @@ fn renumber_call(call: &mut ConstructorCall, to: &[NameId])
 
 #[cycle(trees)]
 fn renumber_member(member: &mut Member, to: &[NameId])
-    ensures { member_seen member.new ≡ renumbered_member to.now (member_seen member.old) }
+    ensures { member_view member.new ≡ renumbered_member to.now (member_view member.old) }
 {
     match member {
         Member::Type { decl } => renumber_decl(decl, to),
@@ -468,7 +473,8 @@ fn renumber_members(list: &mut [Member], to: &[NameId])
 
 #[cycle(trees)]
 fn renumber_decl(decl: &mut Decl, to: &[NameId])
-    ensures { declaration_seen decl.new ≡ renumbered_declaration to.now (declaration_seen decl.old) }
+    ensures { declaration_view decl.new
+        ≡ renumbered_declaration to.now (declaration_view decl.old) }
 {
     match decl {
         Decl::Class {
@@ -510,7 +516,8 @@ fn renumber_decl(decl: &mut Decl, to: &[NameId])
 
 #[tactic(auto, using(crate::proofs::Went::walks))]
 fn renumber_decls(list: &mut [Decl], to: &[NameId])
-    ensures { map declaration_view list.new ≡ map (renumbered_declaration to.now) (map declaration_view list.old) }
+    ensures { map declaration_view list.new
+        ≡ map (renumbered_declaration to.now) (map declaration_view list.old) }
 {
     for decl in list.iter_mut() {
         renumber_decl(decl, to);

@@ -1,6 +1,5 @@
 use Rattle.std.proofs.Common.{arith, rules, refl}
 use Rattle.std.proofs.lemmas.List.{with_items_is}
-use Rattle.je_ast.specs.Seen.{expression_seen}
 use Rattle.je_ast.proofs.Went.{goes_on_below}
 use Rattle.je_ast.proofs.ListsWent.{expressions_went, variables_went, statements_went, labels_went, groups_went, catches_went, members_went}
 use Rattle.je_ast.proofs.VariantsRenumbered.{renumbered_expression-Name, renumbered_expression-OuterThis, renumbered_expression-Parens, renumbered_expression-Select, renumbered_expression-SuperSelect, renumbered_expression-Call, renumbered_expression-CallOn, renumbered_expression-SuperCall, renumbered_expression-Index, renumbered_expression-New, renumbered_expression-NewAnonymous, renumbered_expression-NewArray, renumbered_expression-NewArrayOf, renumbered_expression-ArrayInit, renumbered_expression-Cast, renumbered_expression-Prefix, renumbered_expression-Postfix, renumbered_expression-Binary, renumbered_expression-InstanceOf, renumbered_expression-Conditional, renumbered_expression-Assign, renumbered_for_initializer-Locals, renumbered_for_initializer-Steps, renumbered_statement-Block, renumbered_statement-Local, renumbered_statement-Class, renumbered_statement-Labelled, renumbered_statement-If, renumbered_statement-IfElse, renumbered_statement-While, renumbered_statement-Do, renumbered_statement-For, renumbered_statement-ForEach, renumbered_statement-Switch, renumbered_statement-Break, renumbered_statement-Continue, renumbered_statement-Return, renumbered_statement-Throw, renumbered_statement-Try, renumbered_statement-TryFinally, renumbered_statement-ExpressionStatement, renumbered_constructor_invocation-Explicit, renumbered_member-Type, renumbered_member-Field, renumbered_member-Method, renumbered_member-Constructor, renumbered_member-Initializer, renumbered_declaration-Class, renumbered_declaration-Interface, renumbered_declaration-Enum}
@@ -47,10 +46,6 @@ renumber_catches-returns t c = catches_went _ _ _ _ c.loop-catch.invariant.1 (om
 
 pub renumber_labels-loop-label-preserved : goal.renumber_labels-loop-label-preserved
 renumber_labels-loop-label-preserved t c = goes_on_below _ _ _ _ _ (omega arith) c.renumber_label.ensures c.loop-label.invariant.1
-
-pub renumber_label-returns-in-Case : goal.renumber_label-returns-in-Case
-unfolding expression_seen
-renumber_label-returns-in-Case t c = rw c.in-Case.is (search rules)
 
 pub renumber_groups-loop-group-preserved : goal.renumber_groups-loop-group-preserved
 renumber_groups-loop-group-preserved t c =
