@@ -1,0 +1,10 @@
+pub mod Tokens
+pub mod Types
+pub mod Below
+pub mod Lists
+pub mod Expressions
+pub mod Statements
+pub mod Members
+pub mod Knot
+pub mod Opened
+pub mod Rows
