@@ -1,0 +1,1 @@
+class Division { static int main() { return 1 / 2; } }
