@@ -22,6 +22,7 @@ use Rattle.je_lexer.proofs.ElementClasses.{ascii_starts, name_spaces, digit_star
 use Rattle.je_lexer.proofs.ElementSymbols.{is_plain, is_second_plain, symbols_plain, symbol_covers, one_symbol}
 use Rattle.je_lexer.proofs.Found.{slash_cut}
 use Rattle.je_lexer.proofs.Fronts.{taken as front_taken, dropped}
+use Rattle.je_lexer.proofs.Longest.{run_cons, run_reaches}
 use Rattle.je_lexer.proofs.Literals.{quoted_run, quoted_last}
 
 abbrev pub is_literal : Cut → Bool
@@ -56,23 +57,14 @@ module _ (front : List Character) (e : Element) where
 
 -- ---- white space and words
 
-module _ (passes : ℕ → Bool) (run : List Character → ℕ) (some : (c : Character) (cs : List Character) → passes c.code ≡ true → run (c ∷ cs) ≡ suc (run cs)) where
-  -- characters that pass are no more than the run's
-  run_reaches : (cs rest : List Character) → All (λ d. passes d.code ≡ true) cs → length cs ≤ run (cs ++ rest)
-  run_reaches [] rest h = omega arith
-  run_reaches (c ∷ cs) rest h =
-      let first = some c (cs ++ rest) (All-head (λ d. passes d.code ≡ true) c cs h) in
-      let more = run_reaches cs rest (All-tail (λ d. passes d.code ≡ true) c cs h) in
-      omega arith
-
 spaces_reach : (cs rest : List Character) → All (λ d. is_space d.code ≡ true) cs → length cs ≤ space_run (cs ++ rest)
-spaces_reach = run_reaches is_space space_run (λ c cs e. rw e refl)
+spaces_reach = run_reaches is_space
 
 names_reach : (cs rest : List Character) → All (λ d. continues_name d.code ≡ true) cs → length cs ≤ name_run (cs ++ rest)
-names_reach = run_reaches continues_name name_run (λ c cs e. rw e refl)
+names_reach = run_reaches continues_name
 
 lines_reach : (cs rest : List Character) → All (λ d. ends_line d.code ≡ false) cs → length cs ≤ line_run (cs ++ rest)
-lines_reach cs rest h = run_reaches (λ code. not (ends_line code)) line_run (λ c cs e. rw (not-true _ e) refl) cs rest (λ k d l. rw (h k d l) refl)
+lines_reach cs rest h = run_reaches (λ code. not (ends_line code)) cs rest (λ k d l. rw (h k d l) refl)
 
 space_covered : (file_end : ℕ) (c : Character) (cs rest : List Character) → All (λ d. is_space d.code ≡ true) (c ∷ cs) →
     Covers (c ∷ cs) Element.Blank (cut_at file_end c (cs ++ rest))
@@ -101,7 +93,7 @@ whole_run [] rest h e = no_run rest e
 whole_run (c ∷ cs) rest h e =
     let more = whole_run cs rest (All-tail (λ d. continues_name d.code ≡ true) c cs h) e in
     let first = All-head (λ d. continues_name d.code ≡ true) c cs h in
-    rw first (ap suc more)
+    run_cons continues_name c (cs ++ rest) ∙ rw first (ap suc more)
 
 within : (j : Number) (word behind : List Character) → j.value < limit j → is_floating j word behind ≡ false →
     (in_limit (Some j) && (is_long (Some j) || not (goes_on word behind))) ≡ true

@@ -1,11 +1,11 @@
 -- What is cut at the front of a text is an element, a closed literal, or what stands where no element begins.
-use Rattle.std.proofs.Common.{◌≡◌, ℕ, zero, suc, ◌+◌, ◌<◌, ◌≤◌, Bool, true, false, not, ◌&&◌, ◌||◌, ◌==◌, nat_lt, List, [], ◌∷◌, ◌++◌, length, take, drop, Option, Some, None, if◌then◌else◌, refl, sym, ◌∙◌, subst, arith, true≢false}
+use Rattle.std.proofs.Common.{◌≡◌, ℕ, zero, suc, ◌+◌, ◌<◌, ◌≤◌, Bool, true, false, not, ◌&&◌, ◌||◌, ◌==◌, nat_lt, List, [], ◌∷◌, ◌++◌, length, take, drop, Option, Some, None, if◌then◌else◌, refl, sym, ap, ◌∙◌, subst, arith, true≢false}
 use Rattle.std.proofs.lemmas.Bool.{and_parts, eqb-true, not-true, ltb-true, or_from}
 use Rattle.std.proofs.lemmas.List.Elements.{All-cons}
 use Rattle.je_decode.specs.declared.character.Character.{Character}
 use Rattle.je_token.specs.Texts.{symbol_text}
 use Rattle.je_token.specs.declared.symbol.Symbol.{Symbol}
-use Rattle.je_lexer.specs.Classes.{is_space, starts_name, continues_name, is_digit_below, is_quote, begins_with, begins_with_digit, begins_as_name_part, tail}
+use Rattle.je_lexer.specs.Classes.{is_space, ends_line, starts_name, continues_name, is_digit_below, is_quote, begins_with, begins_with_digit, begins_as_name_part, tail}
 use Rattle.je_lexer.specs.Elements.{Element, IsQuoted, IsElement, opens_other}
 use Rattle.je_lexer.specs.Faults.{IsLiteral, IsWrong, begins_number, begins_comment}
 use Rattle.je_lexer.specs.Numbers.{number, limit, goes_on, is_floating}
@@ -22,7 +22,7 @@ use Rattle.je_lexer.specs.way.Symbols.{symbol_at}
 use Rattle.je_lexer.proofs.Comments.{closed, slash_within}
 use Rattle.je_lexer.proofs.ElementSymbols.{taken_text}
 use Rattle.je_lexer.proofs.Literals.{quoted, quoted_last, open_line}
-use Rattle.je_lexer.proofs.Longest.{longest_fits, names_pass, spaces_pass, lines_pass, names_fit, spaces_fit, lines_fit, sign_fits}
+use Rattle.je_lexer.proofs.Longest.{longest_fits, run_cons, run_passes, run_fits, sign_fits}
 
 pub data Stands (file_end : ℕ) (text : List Character) : Cut → Type 0 where
   element : {k : Cut} {n : ℕ} {e : Element} → cut_len k ≡ Some n → n ≤ length text → IsOf k (take n text) e → IsElement e (take n text) (drop n text) → Stands file_end text k
@@ -43,7 +43,7 @@ of_size e text n m same h = subst (λ k. IsElement e (take k text) (drop k text)
 
 run_end : (end : ℕ) (cs : List Character) → end_of end (take (number_run cs) cs) ≡ number_end end cs
 run_end end [] = refl
-run_end end (c ∷ cs) = by (continues_name c.code || (c.code == 46)) (run_end c.end cs)
+run_end end (c ∷ cs) = rw (run_cons (λ code. continues_name code || (code == 46)) c cs) (by (continues_name c.code || (c.code == 46)) (run_end c.end cs))
   where
     by : (b : Bool) → end_of c.end (take (number_run cs) cs) ≡ number_end c.end cs →
         end_of end (take (if b then suc (number_run cs) else 0) (c ∷ cs)) ≡ (if b then number_end c.end cs else end)
@@ -86,7 +86,7 @@ number_is behind word i e = by (number word) refl e
 -- nothing behind a name goes on with it
 name_ends : (cs : List Character) → begins_as_name_part (drop (name_run cs) cs) ≡ false
 name_ends [] = refl
-name_ends (c ∷ cs) = by (continues_name c.code) refl (name_ends cs)
+name_ends (c ∷ cs) = rw (run_cons continues_name c cs) (by (continues_name c.code) refl (name_ends cs))
   where
     by : (b : Bool) → continues_name c.code ≡ b → begins_as_name_part (drop (name_run cs) cs) ≡ false →
         begins_as_name_part (drop (if b then suc (name_run cs) else 0) (c ∷ cs)) ≡ false
@@ -102,18 +102,18 @@ number_front file_end c cs digit = by (number_before (drop (name_run cs) cs) (ta
     by None e = bad_number_front file_end c cs (rw digit refl)
     by (Some i) e =
         let h = number_is (drop (name_run cs) cs) (take (suc (name_run cs)) (c ∷ cs)) i e in
-        Stands.element refl (let fit = names_fit cs in omega arith) IsOf.integer (IsElement.integer digit h.is h.within (name_ends cs) h.whole)
+        Stands.element refl (let fit = run_fits continues_name cs in omega arith) IsOf.integer (IsElement.integer digit h.is h.within (name_ends cs) h.whole)
 
 -- ---- white space, words and comments
 
 space_front : (file_end : ℕ) (c : Character) (cs : List Character) → is_space c.code ≡ true → Stands file_end (c ∷ cs) (cut.Blank (suc (space_run cs)))
 space_front file_end c cs e =
-    let fit = spaces_fit cs in
-    Stands.element refl (omega arith) IsOf.blank (IsElement.white_space (All-cons (λ d. is_space d.code ≡ true) c (take (space_run cs) cs) e (spaces_pass cs)))
+    let fit = run_fits is_space cs in
+    Stands.element refl (omega arith) IsOf.blank (IsElement.white_space (All-cons (λ d. is_space d.code ≡ true) c (take (space_run cs) cs) e (run_passes is_space cs)))
 
 word_front : (file_end : ℕ) (c : Character) (cs : List Character) → starts_name c.code ≡ true → Stands file_end (c ∷ cs) (cut.Word (suc (name_run cs)))
 word_front file_end c cs e =
-    let fit = names_fit cs in Stands.element refl (omega arith) IsOf.word (IsElement.word e (names_pass cs))
+    let fit = run_fits continues_name cs in Stands.element refl (omega arith) IsOf.word (IsElement.word e (run_passes continues_name cs))
 
 comment_front : (file_end : ℕ) (c d : Character) (cs : List Character) → c.code ≡ 47 → d.code ≡ 42 → Stands file_end (c ∷ d ∷ cs) (comment_cut file_end c cs)
 unfolding comment_cut
@@ -128,9 +128,10 @@ comment_front file_end c d cs slash star =
 
 line_front : (file_end : ℕ) (c d : Character) (cs : List Character) → c.code ≡ 47 → d.code ≡ 47 → Stands file_end (c ∷ d ∷ cs) (cut.Blank (suc (line_run (d ∷ cs))))
 line_front file_end c d cs first second =
-    let size : suc (line_run (d ∷ cs)) ≡ suc (suc (line_run cs)) = rw second refl in
-    let fit = lines_fit (d ∷ cs) in
-    Stands.element refl (omega arith) IsOf.blank (of_size Element.Blank (c ∷ d ∷ cs) _ _ size (IsElement.line_comment first second (λ k e l. not-true _ ((lines_pass cs) k e l))))
+    let size : suc (line_run (d ∷ cs)) ≡ suc (suc (line_run cs)) =
+    let one : line_run (d ∷ cs) ≡ suc (line_run cs) = run_cons (λ code. not (ends_line code)) d cs ∙ rw second refl in ap suc one in
+    let fit = run_fits (λ code. not (ends_line code)) (d ∷ cs) in
+    Stands.element refl (omega arith) IsOf.blank (of_size Element.Blank (c ∷ d ∷ cs) _ _ size (IsElement.line_comment first second (λ k e l. not-true _ (run_passes (λ code. not (ends_line code)) cs k e l))))
 
 -- ---- character and string literals
 

@@ -1,14 +1,14 @@
 -- The sign at the front of a text is the longest, and the characters of a run are all of its kind.
-use Rattle.std.proofs.Common.{◌≡◌, ℕ, suc, ◌≤◌, Bool, true, false, not, ◌&&◌, ◌==◌, nat_lt, List, [], ◌∷◌, length, take, Option, Some, None, if◌then◌else◌, All, refl, subst, arith}
+use Rattle.std.proofs.Common.{◌+◌, ◌++◌, ◌≡◌, ℕ, suc, ◌≤◌, Bool, true, false, not, ◌&&◌, ◌==◌, nat_lt, List, [], ◌∷◌, length, take, Option, Some, None, if◌then◌else◌, All, refl, subst, ◌∙◌, arith}
 use Rattle.std.specs.Option.{IfSome}
 use Rattle.std.proofs.lemmas.Bool.{and_parts}
 use Rattle.std.proofs.lemmas.Bool.Decides.{nat_tests}
-use Rattle.std.proofs.lemmas.List.Elements.{All-nil, All-cons}
+use Rattle.std.proofs.lemmas.List.Elements.{All-nil, All-cons, All-head, All-tail}
 use Rattle.je_decode.specs.declared.character.Character.{Character}
 use Rattle.je_token.specs.Texts.{symbol_text}
 use Rattle.je_token.specs.declared.symbol.Symbol.{Symbol}
 use Rattle.je_lexer.specs.Classes.{is_space, ends_line, continues_name}
-use Rattle.je_lexer.specs.way.Runs.{name_run, space_run, line_run}
+use Rattle.je_lexer.specs.way.Runs.{run_of}
 use Rattle.je_lexer.specs.way.Symbols.{fits, symbol_len, longer, longest, all_symbols, symbol_at}
 
 module _ (text : List Character) where
@@ -56,47 +56,39 @@ pub longest_covers : (text : List Character) → All (λ other. fits (symbol_tex
 unfolding symbol_at
 longest_covers text = all_covered text None all_symbols
 
-module _ (passes : ℕ → Bool) (run : List Character → ℕ) (none : run [] ≡ 0) (some : (c : Character) (cs : List Character) → run (c ∷ cs) ≡ (if passes c.code then suc (run cs) else 0)) where
-  run_passes : (text : List Character) → All (λ c. passes c.code ≡ true) (take (run text) text)
-  run_passes [] = rw none (All-nil (λ c. passes c.code ≡ true))
-  run_passes (c ∷ cs) = rw (some c cs) (by (passes c.code) refl (run_passes cs))
+pub run_cons : (passes : ℕ → Bool) (c : Character) (cs : List Character) → run_of passes (c ∷ cs) ≡ (if passes c.code then suc (run_of passes cs) else 0)
+run_cons passes c cs = by (passes c.code)
+  where
+    by : (b : Bool) → (if b then 1 + run_of passes cs else 0) ≡ (if b then suc (run_of passes cs) else 0)
+    by true = omega arith
+    by false = refl
+
+module _ (passes : ℕ → Bool) where
+  pub run_passes : (text : List Character) → All (λ c. passes c.code ≡ true) (take (run_of passes text) text)
+  run_passes [] = All-nil (λ c. passes c.code ≡ true)
+  run_passes (c ∷ cs) = rw (run_cons passes c cs) (by (passes c.code) refl (run_passes cs))
     where
-      by : (b : Bool) → passes c.code ≡ b → All (λ d. passes d.code ≡ true) (take (run cs) cs) → All (λ d. passes d.code ≡ true) (take (if b then suc (run cs) else 0) (c ∷ cs))
-      by true e h = All-cons (λ d. passes d.code ≡ true) c (take (run cs) cs) e h
+      by : (b : Bool) → passes c.code ≡ b → All (λ d. passes d.code ≡ true) (take (run_of passes cs) cs) →
+          All (λ d. passes d.code ≡ true) (take (if b then suc (run_of passes cs) else 0) (c ∷ cs))
+      by true e h = All-cons (λ d. passes d.code ≡ true) c (take (run_of passes cs) cs) e h
       by false e h = All-nil (λ d. passes d.code ≡ true)
 
-  run_fits : (text : List Character) → run text ≤ length text
-  run_fits [] = rw none (omega arith)
-  run_fits (c ∷ cs) = rw (some c cs) (by (passes c.code) (run_fits cs))
+  pub run_fits : (text : List Character) → run_of passes text ≤ length text
+  run_fits [] = omega arith
+  run_fits (c ∷ cs) = rw (run_cons passes c cs) (by (passes c.code) (run_fits cs))
     where
-      by : (b : Bool) → run cs ≤ length cs → (if b then suc (run cs) else 0) ≤ length (c ∷ cs)
+      by : (b : Bool) → run_of passes cs ≤ length cs → (if b then suc (run_of passes cs) else 0) ≤ length (c ∷ cs)
       by true h = omega arith
       by false h = omega arith
 
-pub names_pass : (text : List Character) → All (λ c. continues_name c.code ≡ true) (take (name_run text) text)
-names_pass = run_passes continues_name name_run refl (λ c cs. refl)
-
-pub spaces_pass : (text : List Character) → All (λ c. is_space c.code ≡ true) (take (space_run text) text)
-spaces_pass = run_passes is_space space_run refl (λ c cs. refl)
-
-line_cons : (c : Character) (cs : List Character) → line_run (c ∷ cs) ≡ (if not (ends_line c.code) then suc (line_run cs) else 0)
-line_cons c cs = by (ends_line c.code)
-  where
-    by : (b : Bool) → (if b then 0 else suc (line_run cs)) ≡ (if not b then suc (line_run cs) else 0)
-    by true = refl
-    by false = refl
-
-pub lines_pass : (text : List Character) → All (λ c. not (ends_line c.code) ≡ true) (take (line_run text) text)
-lines_pass = run_passes (λ code. not (ends_line code)) line_run refl line_cons
-
-pub names_fit : (text : List Character) → name_run text ≤ length text
-names_fit = run_fits continues_name name_run refl (λ c cs. refl)
-
-pub spaces_fit : (text : List Character) → space_run text ≤ length text
-spaces_fit = run_fits is_space space_run refl (λ c cs. refl)
-
-pub lines_fit : (text : List Character) → line_run text ≤ length text
-lines_fit = run_fits (λ code. not (ends_line code)) line_run refl line_cons
+  -- characters that pass are no more than the run's
+  pub run_reaches : (cs rest : List Character) → All (λ d. passes d.code ≡ true) cs → length cs ≤ run_of passes (cs ++ rest)
+  run_reaches [] rest h = omega arith
+  run_reaches (c ∷ cs) rest h =
+      let first : passes c.code ≡ true = All-head (λ d. passes d.code ≡ true) c cs h in
+      let one : run_of passes (c ∷ cs ++ rest) ≡ suc (run_of passes (cs ++ rest)) = run_cons passes c (cs ++ rest) ∙ rw first refl in
+      let more = run_reaches cs rest (All-tail (λ d. passes d.code ≡ true) c cs h) in
+      omega arith
 
 pub sign_fits : (codes : List ℕ) (text : List Character) → fits codes text ≡ true → length codes ≤ length text
 sign_fits [] text e = omega arith

@@ -5,18 +5,19 @@ use Rattle.std.specs.Char.{digit_value}
 use Rattle.std.proofs.Math.Utf8.{scalar}
 use Rattle.unicode_ident.specs.Ident.{is_xid_start, is_xid_continue}
 use Rattle.je_decode.specs.declared.character.Character.{Character}
+use Rattle.je_lexer.specs.Characters as char
 
 abbrev pub is_space : ℕ → Bool
-is_space code = (code == 32) || (code == 9) || (code == 12) || (code == 13) || (code == 10)
+is_space code = (code == char.space) || (code == char.tab) || (code == char.form_feed) || (code == char.carriage_return) || (code == char.line_feed)
 
 abbrev pub ends_line : ℕ → Bool
-ends_line code = (code == 10) || (code == 13)
+ends_line code = (code == char.line_feed) || (code == char.carriage_return)
 
 unfoldable pub starts_name : ℕ → Bool
-starts_name code = (scalar code && is_xid_start code) || (code == 95) || (code == 36)
+starts_name code = (scalar code && is_xid_start code) || (code == char.underscore) || (code == char.dollar)
 
 unfoldable pub continues_name : ℕ → Bool
-continues_name code = (scalar code && is_xid_continue code) || (code == 36)
+continues_name code = (scalar code && is_xid_continue code) || (code == char.dollar)
 
 abbrev pub is_digit_below : ℕ → ℕ → Bool
 is_digit_below radix code = nat_lt (digit_value code) radix
@@ -34,7 +35,7 @@ tail [] = []
 tail (c ∷ cs) = cs
 
 abbrev pub is_quote : ℕ → Bool
-is_quote code = (code == 34) || (code == 39)
+is_quote code = (code == char.double_quote) || (code == char.single_quote)
 
 -- an identifier character stands there
 abbrev pub begins_as_name_part : List Character → Bool

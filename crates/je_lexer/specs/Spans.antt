@@ -2,6 +2,7 @@
 use Rattle.std.specs.Prelude.{ℕ, ◌||◌, ◌==◌, List, [], ◌∷◌, if◌then◌else◌}
 use Rattle.je_base.specs.declared.span.Span.{Span}
 use Rattle.je_decode.specs.declared.character.Character.{Character}
+use Rattle.je_lexer.specs.Characters as char
 use Rattle.je_lexer.specs.Classes.{ends_line, continues_name}
 
 -- the byte behind the last of the characters; what it is where there is none
@@ -37,4 +38,4 @@ line_end file_end (c ∷ cs) = if ends_line c.code then c.start else line_end fi
 -- the byte behind the longest run of identifier characters and points; what it is where none stands there
 abbrev pub number_end : ℕ → List Character → ℕ
 number_end end [] = end
-number_end end (c ∷ cs) = if continues_name c.code || (c.code == 46) then number_end c.end cs else end
+number_end end (c ∷ cs) = if continues_name c.code || (c.code == char.point) then number_end c.end cs else end

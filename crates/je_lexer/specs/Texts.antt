@@ -2,13 +2,14 @@
 -- or an escape.
 use Rattle.std.specs.Prelude.{◌≡◌, ℕ, ◌+◌, ◌-◌, ◌*◌, ◌/◌, ◌%◌, Bool, ◌&&◌, ◌||◌, ◌==◌, nat_le, nat_lt, List, [], ◌∷◌, ◌++◌, Option, Some, None, if◌then◌else◌}
 use Rattle.je_decode.specs.declared.character.Character.{Character}
+use Rattle.je_lexer.specs.Characters as char
 
 -- the units of a character: one, or a surrogate pair that holds the twenty bits past 0x10000
 abbrev pub units_of : ℕ → List ℕ
 units_of code = if nat_lt code 0x10000 then code ∷ [] else (0xD800 + ((code - 0x10000) / 0x400) % 0x400) ∷ (0xDC00 + (code - 0x10000) % 0x400) ∷ []
 
 abbrev pub is_octal : ℕ → Bool
-is_octal code = nat_le 48 code && nat_le code 55
+is_octal code = nat_le char.digit_0 code && nat_le code char.digit_7
 
 -- units, and what stands behind the characters that mean them
 pub record TextPiece : Type 0 where
@@ -21,24 +22,24 @@ one_unit unit rest = record { units = unit ∷ []; rest = rest }
 -- `b t n f r " ' \` behind a backslash
 abbrev pub simple_escape : ℕ → Option ℕ
 simple_escape code =
-    if code == 98 then Some 8
-    else if code == 116 then Some 9
-    else if code == 110 then Some 10
-    else if code == 102 then Some 12
-    else if code == 114 then Some 13
-    else if (code == 34) || (code == 39) || (code == 92) then Some code
+    if code == char.lower_b then Some char.backspace
+    else if code == char.lower_t then Some char.tab
+    else if code == char.lower_n then Some char.line_feed
+    else if code == char.lower_f then Some char.form_feed
+    else if code == char.lower_r then Some char.carriage_return
+    else if (code == char.double_quote) || (code == char.single_quote) || (code == char.backslash) then Some code
     else None
 
 -- one octal digit more, where one stands there
 abbrev pub and_octal : ℕ → List Character → TextPiece
 and_octal value [] = one_unit value []
-and_octal value (c ∷ cs) = if is_octal c.code then one_unit (8 * value + (c.code - 48)) cs else one_unit value (c ∷ cs)
+and_octal value (c ∷ cs) = if is_octal c.code then one_unit (8 * value + (c.code - char.digit_0)) cs else one_unit value (c ∷ cs)
 
 -- up to two octal digits more, but one alone behind 4 to 7
 abbrev pub and_octals : ℕ → List Character → TextPiece
 and_octals value [] = one_unit value []
 and_octals value (c ∷ cs) =
-    if is_octal c.code then (if nat_le value 3 then and_octal (8 * value + (c.code - 48)) cs else one_unit (8 * value + (c.code - 48)) cs)
+    if is_octal c.code then (if nat_le value 3 then and_octal (8 * value + (c.code - char.digit_0)) cs else one_unit (8 * value + (c.code - char.digit_0)) cs)
     else one_unit value (c ∷ cs)
 
 abbrev pub with_rest : Option ℕ → List Character → Option TextPiece
@@ -48,11 +49,11 @@ with_rest (Some unit) cs = Some (one_unit unit cs)
 -- behind a backslash
 unfoldable pub escape_piece : List Character → Option TextPiece
 escape_piece [] = None
-escape_piece (c ∷ cs) = if is_octal c.code then Some (and_octals (c.code - 48) cs) else with_rest (simple_escape c.code) cs
+escape_piece (c ∷ cs) = if is_octal c.code then Some (and_octals (c.code - char.digit_0) cs) else with_rest (simple_escape c.code) cs
 
 -- the piece at the front; None where a backslash begins no escape
 unfoldable pub text_piece : Character → List Character → Option TextPiece
-text_piece c cs = if c.code == 92 then escape_piece cs else Some (record { units = units_of c.code; rest = cs })
+text_piece c cs = if c.code == char.backslash then escape_piece cs else Some (record { units = units_of c.code; rest = cs })
 
 -- The characters mean these units.
 pub data Means : List Character → List ℕ → Type 0 where

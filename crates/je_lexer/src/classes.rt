@@ -3,18 +3,23 @@ ghost use Rattle.std.specs.Prelude.{◌≡◌, ◌<◌, ◌≤◌, IfSome, if◌
 ghost use Rattle.std.specs.Char.{digit_value};
 ghost use Rattle.je_lexer.specs.Classes.{is_space, ends_line, starts_name, continues_name, is_digit_below, begins_with, begins_with_digit, tail};
 
+use crate::characters::{CARRIAGE_RETURN, FORM_FEED, LINE_FEED, SPACE, TAB};
 use je_decode::Character;
 
 pub fn is_space(code: u32) -> bool
     ensures { result ≡ is_space code }
 {
-    code == 32 || code == 9 || code == 12 || code == 13 || code == 10
+    code == SPACE
+        || code == TAB
+        || code == FORM_FEED
+        || code == CARRIAGE_RETURN
+        || code == LINE_FEED
 }
 
 pub fn ends_line(code: u32) -> bool
     ensures { result ≡ ends_line code }
 {
-    code == 10 || code == 13
+    code == LINE_FEED || code == CARRIAGE_RETURN
 }
 
 #[tactic(auto, unfolding(crate::specs::Classes::starts_name))]

@@ -3,6 +3,7 @@ ghost use Rattle.std.specs.Prelude.{◌≡◌, ◌<◌, ◌≤◌, ◌+◌, ◌^
 ghost use Rattle.je_lexer.specs.Spans.{end_of, start_of};
 ghost use Rattle.je_lexer.specs.way.Cutting.{bad_number, number_cut, literal_cut, comment_cut, if_symbol, cut_at, cut_len};
 
+use crate::characters::{DOUBLE_QUOTE, POINT, SINGLE_QUOTE, SLASH, STAR};
 use crate::classes::{begins_with, begins_with_digit, is_digit_below, is_space, starts_name, tail};
 use crate::fault::FaultKind;
 use crate::numbers::{Number, number_before};
@@ -83,7 +84,7 @@ fn comment_cut(file_end: u32, c: Character, behind: &[Character]) -> Cut
 {
     let n = comment_run(behind);
     let rest = &behind[n..];
-    if begins_with(42, rest) && begins_with(47, tail(rest)) {
+    if begins_with(STAR, rest) && begins_with(SLASH, tail(rest)) {
         Cut::Blank(n + 4)
     } else {
         Cut::Fault(FaultKind::OpenComment, c.start, file_end)
@@ -121,16 +122,16 @@ pub fn cut_at(file_end: u32, text: &[Character], c: Character, behind: &[Charact
     if is_digit_below(10, c.code) {
         return number_cut(text, c, behind);
     }
-    if c.code == 46 && begins_with_digit(10, behind) {
+    if c.code == POINT && begins_with_digit(10, behind) {
         return bad_number(c, behind);
     }
-    if c.code == 34 || c.code == 39 {
+    if c.code == DOUBLE_QUOTE || c.code == SINGLE_QUOTE {
         return literal_cut(file_end, c, behind);
     }
-    if c.code == 47 && begins_with(47, behind) {
+    if c.code == SLASH && begins_with(SLASH, behind) {
         return Cut::Blank(line_run(behind) + 1);
     }
-    if c.code == 47 && begins_with(42, behind) {
+    if c.code == SLASH && begins_with(STAR, behind) {
         return comment_cut(file_end, c, tail(behind));
     }
     match symbol_at(text) {

@@ -12,6 +12,7 @@
 //! another, from left to right.
 #![tactic(auto)]
 
+mod characters;
 mod classes;
 mod cutting;
 mod fault;

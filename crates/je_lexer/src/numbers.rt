@@ -3,6 +3,9 @@ ghost use Rattle.std.specs.Prelude.{◌≡◌, ◌<◌, ◌≤◌, ◌^◌, IfSo
 ghost use Rattle.je_lexer.specs.Numbers.{is_empty, is_suffix, is_hexadecimal, digits, number, limit, begins_with_sign, begins_with_exponent, goes_on};
 ghost use Rattle.je_lexer.specs.way.Numbers.{in_limit, is_long, number_before};
 
+use crate::characters::{
+    DIGIT_0, LOWER_L, LOWER_P, LOWER_X, MINUS, PLUS, POINT, UPPER_L, UPPER_P, UPPER_X,
+};
 use crate::classes::{begins_with, begins_with_digit, digit, tail};
 use crate::runs::hexadecimal_run;
 use je_decode::Character;
@@ -19,13 +22,14 @@ pub struct Number {
 fn is_suffix(c: Character, behind: &[Character]) -> bool
     ensures { result ≡ is_suffix c behind.now }
 {
-    behind.is_empty() && (c.code == 76 || c.code == 108)
+    behind.is_empty() && (c.code == UPPER_L || c.code == LOWER_L)
 }
 
 fn is_hexadecimal(word: &[Character]) -> bool
     ensures { result ≡ is_hexadecimal word.now }
 {
-    begins_with(48, word) && (begins_with(120, tail(word)) || begins_with(88, tail(word)))
+    begins_with(DIGIT_0, word)
+        && (begins_with(LOWER_X, tail(word)) || begins_with(UPPER_X, tail(word)))
 }
 
 fn digits(decimal: bool, radix: u32, text: &[Character]) -> Option<Number>
@@ -68,7 +72,7 @@ fn read_number(word: &[Character]) -> Option<Number>
             None
         };
     }
-    if begins_with(48, word) && !tail(word).is_empty() {
+    if begins_with(DIGIT_0, word) && !tail(word).is_empty() {
         return digits(false, 8, word);
     }
     digits(true, 10, word)
@@ -98,14 +102,14 @@ fn in_limit(n: Option<Number>) -> bool
 fn begins_with_sign(text: &[Character]) -> bool
     ensures { result ≡ begins_with_sign text.now }
 {
-    begins_with(43, text) || begins_with(45, text)
+    begins_with(PLUS, text) || begins_with(MINUS, text)
 }
 
 fn begins_with_exponent(text: &[Character]) -> bool
     ensures { result ≡ begins_with_exponent text.now }
 {
     let behind = tail(text);
-    (begins_with(112, text) || begins_with(80, text))
+    (begins_with(LOWER_P, text) || begins_with(UPPER_P, text))
         && (begins_with_digit(10, behind)
             || begins_with_sign(behind) && begins_with_digit(10, tail(behind)))
 }
@@ -115,7 +119,7 @@ fn begins_with_exponent(text: &[Character]) -> bool
 fn goes_on(word: &[Character], behind: &[Character]) -> bool
     ensures { result ≡ goes_on word.now behind.now }
 {
-    if !begins_with(46, behind) {
+    if !begins_with(POINT, behind) {
         return false;
     }
     if !is_hexadecimal(word) {

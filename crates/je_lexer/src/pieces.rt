@@ -5,6 +5,7 @@ ghost use Rattle.je_lexer.specs.Elements.{body};
 ghost use Rattle.je_lexer.specs.Texts.{Means};
 ghost use Rattle.je_lexer.specs.way.Steps.{IsToken, IsPiece, IsNoPiece, IsBadBody};
 
+use crate::characters::SINGLE_QUOTE;
 use crate::classes::{begins_with, tail};
 use crate::cutting::Cut;
 use crate::fault::{FaultKind, LexFault};
@@ -163,7 +164,7 @@ fn lex_literal(
         IfOk result (IsToken file (Cut.Literal len) front.now names texts.old.items names texts.new.items) }
     ensures fault { IfErr result (IsNoPiece file (Cut.Literal len) front.now) }
 {
-    if begins_with(39, front) {
+    if begins_with(SINGLE_QUOTE, front) {
         lex_char(alloc, file, len, front)
     } else {
         lex_text(alloc, file, texts, len, front)

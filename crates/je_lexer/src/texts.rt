@@ -3,6 +3,10 @@ ghost use Rattle.std.specs.Prelude.{◌≡◌, ◌≤◌, length, option_map, If
 ghost use Rattle.je_lexer.specs.Texts.{units_of, is_octal, simple_escape, and_octal, and_octals, escape_piece, text_piece, Means};
 ghost use Rattle.je_lexer.specs.way.Views.{units_said, piece_said, IsBadText};
 
+use crate::characters::{
+    BACKSLASH, BACKSPACE, CARRIAGE_RETURN, DIGIT_0, DIGIT_7, DOUBLE_QUOTE, FORM_FEED, LINE_FEED,
+    LOWER_B, LOWER_F, LOWER_N, LOWER_R, LOWER_T, SINGLE_QUOTE, TAB,
+};
 use je_base::{Memory, Units};
 use je_decode::Character;
 use std::alloc::Global;
@@ -46,21 +50,21 @@ fn units_of(code: u32) -> PieceUnits
 fn is_octal(code: u32) -> bool
     ensures { result ≡ is_octal code }
 {
-    48 <= code && code <= 55
+    DIGIT_0 <= code && code <= DIGIT_7
 }
 
 fn simple_escape(code: u32) -> Option<u16>
     ensures { result ≡ simple_escape code }
 {
     match code {
-        98 => Some(8),
-        116 => Some(9),
-        110 => Some(10),
-        102 => Some(12),
-        114 => Some(13),
-        34 => Some(34),
-        39 => Some(39),
-        92 => Some(92),
+        LOWER_B => Some(BACKSPACE as u16),
+        LOWER_T => Some(TAB as u16),
+        LOWER_N => Some(LINE_FEED as u16),
+        LOWER_F => Some(FORM_FEED as u16),
+        LOWER_R => Some(CARRIAGE_RETURN as u16),
+        DOUBLE_QUOTE => Some(DOUBLE_QUOTE as u16),
+        SINGLE_QUOTE => Some(SINGLE_QUOTE as u16),
+        BACKSLASH => Some(BACKSLASH as u16),
         _ => None,
     }
 }
@@ -81,7 +85,10 @@ fn and_octal(value: u16, text: &[Character]) -> PieceFound<'_>
     ensures shorter { length result.rest.now ≤ length text.now }
 {
     match text.split_first() {
-        Some((c, behind)) if is_octal(c.code) => one_unit(8 * value + (c.code - 48) as u16, behind),
+        Some((c, behind)) if is_octal(c.code) => one_unit(
+            8 * value + (c.code - DIGIT_0) as u16,
+            behind,
+        ),
         _ => one_unit(value, text),
     }
 }
@@ -93,7 +100,7 @@ fn and_octals(value: u16, text: &[Character]) -> PieceFound<'_>
 {
     match text.split_first() {
         Some((c, behind)) if is_octal(c.code) => {
-            let more = 8 * value + (c.code - 48) as u16;
+            let more = 8 * value + (c.code - DIGIT_0) as u16;
             if value <= 3 {
                 and_octal(more, behind)
             } else {
@@ -111,7 +118,7 @@ fn escape_piece(text: &[Character]) -> Option<PieceFound<'_>>
 {
     let (c, behind) = text.split_first()?;
     if is_octal(c.code) {
-        return Some(and_octals((c.code - 48) as u16, behind));
+        return Some(and_octals((c.code - DIGIT_0) as u16, behind));
     }
     let unit = simple_escape(c.code)?;
     Some(one_unit(unit, behind))
@@ -122,7 +129,7 @@ fn text_piece(c: Character, behind: &[Character]) -> Option<PieceFound<'_>>
     ensures value { option_map piece_said result ≡ text_piece c behind.now }
     ensures shorter { IfSome result (λ p. length p.rest.now ≤ length behind.now) }
 {
-    if c.code == 92 {
+    if c.code == BACKSLASH {
         return escape_piece(behind);
     }
     Some(PieceFound {

@@ -1,6 +1,7 @@
 -- What is cut at the front of a text: white space or a comment, a token, or a fault; and what element or fault that is.
 use Rattle.std.specs.Prelude.{◌≡◌, ◌≢◌, ℕ, true, suc, ◌+◌, false, ◌&&◌, ◌||◌, ◌==◌, List, [], ◌∷◌, length, take, drop, Option, Some, None, if◌then◌else◌}
 use Rattle.je_decode.specs.declared.character.Character.{Character}
+use Rattle.je_lexer.specs.Characters as char
 use Rattle.je_token.specs.Texts.{symbol_text}
 use Rattle.je_token.specs.declared.symbol.Symbol.{Symbol}
 use Rattle.je_lexer.specs.Spans.{start_of, end_of}
@@ -36,7 +37,7 @@ literal_cut file_end c cs =
 -- cs stands behind `/*`
 unfoldable pub comment_cut : ℕ → Character → List Character → Cut
 comment_cut file_end c cs =
-    if begins_with 42 (drop (comment_run cs) cs) && begins_with 47 (tail (drop (comment_run cs) cs)) then cut.Blank (comment_run cs + 4) else cut.Fault kind.OpenComment c.start file_end
+    if begins_with char.star (drop (comment_run cs) cs) && begins_with char.slash (tail (drop (comment_run cs) cs)) then cut.Blank (comment_run cs + 4) else cut.Fault kind.OpenComment c.start file_end
 
 abbrev pub if_symbol : Character → Option Symbol → Cut
 if_symbol c None = cut.Fault kind.BadChar c.start c.end
@@ -47,10 +48,10 @@ cut_at file_end c cs =
     if is_space c.code then cut.Blank (suc (space_run cs))
     else if starts_name c.code then cut.Word (suc (name_run cs))
     else if is_digit_below 10 c.code then number_cut c cs
-    else if (c.code == 46) && begins_with_digit 10 cs then bad_number c cs
-    else if (c.code == 34) || (c.code == 39) then literal_cut file_end c cs
-    else if (c.code == 47) && begins_with 47 cs then cut.Blank (suc (line_run cs))
-    else if (c.code == 47) && begins_with 42 cs then comment_cut file_end c (tail cs)
+    else if (c.code == char.point) && begins_with_digit 10 cs then bad_number c cs
+    else if (c.code == char.double_quote) || (c.code == char.single_quote) then literal_cut file_end c cs
+    else if (c.code == char.slash) && begins_with char.slash cs then cut.Blank (suc (line_run cs))
+    else if (c.code == char.slash) && begins_with char.star cs then comment_cut file_end c (tail cs)
     else if_symbol c (symbol_at (c ∷ cs))
 
 -- how many characters are cut
@@ -73,13 +74,13 @@ pub data IsOf : Cut → List Character → Element → Type 0 where
   word : {n : ℕ} {front : List Character} → IsOf (cut.Word n) front Element.Word
   sign : {s : Symbol} {n : ℕ} {front : List Character} → IsOf (cut.Symbol s n) front (Element.Sign s)
   integer : {i : Number} {n : ℕ} {front : List Character} → IsOf (cut.Number i n) front (Element.Integer i)
-  char_literal : {n unit : ℕ} {front : List Character} → begins_with 39 front ≡ true → Means (body front) (unit ∷ []) → IsOf (cut.Literal n) front (Element.Char unit)
-  text_literal : {n : ℕ} {front : List Character} {units : List ℕ} → begins_with 39 front ≡ false → Means (body front) units →
+  char_literal : {n unit : ℕ} {front : List Character} → begins_with char.single_quote front ≡ true → Means (body front) (unit ∷ []) → IsOf (cut.Literal n) front (Element.Char unit)
+  text_literal : {n : ℕ} {front : List Character} {units : List ℕ} → begins_with char.single_quote front ≡ false → Means (body front) units →
       IsOf (cut.Literal n) front (Element.Text units)
 
 -- What is cut, with its characters, is no element, for this reason, from this byte to that.
 pub data IsBad : Cut → List Character → FaultKind → ℕ → ℕ → Type 0 where
   uncut : {k : FaultKind} {start end : ℕ} {front : List Character} → IsBad (cut.Fault k start end) front k start end
   bad_escape : {n : ℕ} {front : List Character} {bad : Character} → HasBadBackslash (body front) bad → IsBad (cut.Literal n) front kind.BadEscape bad.start bad.end
-  no_unit : {n : ℕ} {front : List Character} {units : List ℕ} → begins_with 39 front ≡ true → Means (body front) units → length units ≢ 1 →
+  no_unit : {n : ℕ} {front : List Character} {units : List ℕ} → begins_with char.single_quote front ≡ true → Means (body front) units → length units ≢ 1 →
       IsBad (cut.Literal n) front kind.BadLiteral (start_of 0 front) (end_of 0 front)
