@@ -1,16 +1,18 @@
 -- JLS 3.1, 3.3 and 3.5: the characters of a source file, its Unicode escapes translated, without a control-Z at its end.
-use Rattle.std.specs.Prelude.{◌≡◌, ℕ, ◌-◌, Bool, false, ◌==◌, List, [], ◌∷◌, length, take, Result, Ok, Err, if◌then◌else◌}
+use Rattle.std.specs.Prelude.{◌≡◌, ℕ, ◌-◌, Bool, false, ◌==◌, List, [], ◌∷◌, length, take, if◌then◌else◌}
 use Rattle.std.specs.Str.{chars, IsUtf8, IsValidUpTo}
-use Rattle.std.proofs.Common.{Vec, Global}
 use Rattle.je_decode.specs.Escapes.{Translates, Malformed}
 use Rattle.je_decode.specs.Places.{placed}
 use Rattle.je_decode.specs.declared.character.Character.{Character}
 use Rattle.je_decode.specs.declared.fault.DecodeFault.{DecodeFault}
 use Rattle.je_decode.specs.declared.fault.DecodeFault.TheVariants as fault
 
+abbrev pub control_z : ℕ
+control_z = 26
+
 abbrev pub ends_in_mark : List Character → Bool
 ends_in_mark [] = false
-ends_in_mark (c ∷ []) = c.code == 26
+ends_in_mark (c ∷ []) = c.code == control_z
 ends_in_mark (c ∷ d ∷ cs) = ends_in_mark (d ∷ cs)
 
 abbrev pub without_mark : List Character → List Character
@@ -32,13 +34,8 @@ pub record HasBadEscape (bytes : List ℕ) (bad : Character) : Type 0 where
   pub utf8 : IsUtf8 bytes
   pub malformed : Malformed false (placed 0 (chars bytes)) bad
 
--- Why bytes have no characters.
-abbrev pub IsRefused : DecodeFault → List ℕ → Type 0
-IsRefused fault.Memory bytes = Unit {0}
-IsRefused (fault.NotUtf8 at) bytes = IsNotUtf8 bytes at
-IsRefused (fault.BadEscape bad) bytes = HasBadEscape bytes bad
-
--- The bytes' characters, or why there are none, unless memory ran out.
-abbrev pub IsDecoded : Result (Vec Character Global) DecodeFault → List ℕ → Type 0
-IsDecoded (Ok all) bytes = Decodes bytes all.items
-IsDecoded (Err e) bytes = IsRefused e bytes
+-- Why bytes have no characters, unless memory ran out.
+abbrev pub IsRefused : List ℕ → DecodeFault → Type 0
+IsRefused bytes fault.Memory = Unit {0}
+IsRefused bytes (fault.NotUtf8 at) = IsNotUtf8 bytes at
+IsRefused bytes (fault.BadEscape bad) = HasBadEscape bytes bad

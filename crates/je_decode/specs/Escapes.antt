@@ -4,17 +4,25 @@ use Rattle.std.specs.Prelude.{◌≡◌, ℕ, ◌+◌, ◌-◌, ◌*◌, Bool, f
 use Rattle.std.specs.Char.{digit_value}
 use Rattle.je_decode.specs.declared.character.Character.{Character}
 
+-- `\`
+abbrev pub backslash : ℕ
+backslash = 92
+
+-- `u`
+abbrev pub lower_u : ℕ
+lower_u = 117
+
 abbrev pub begins_with : ℕ → List Character → Bool
 begins_with code [] = false
 begins_with code (c ∷ cs) = c.code == code
 
 -- A backslash before a `u` begins an escape, unless an odd number of backslashes stands before it, which `odd` says.
 abbrev pub opens : Bool → Character → List Character → Bool
-opens odd c cs = not odd && (c.code == 92) && begins_with 117 cs
+opens odd c cs = not odd && (c.code == backslash) && begins_with lower_u cs
 
 -- whether an odd number of backslashes stands before what is behind the piece
 abbrev pub turns : Bool → Character → List Character → Bool
-turns odd c cs = not odd && (c.code == 92) && not (begins_with 117 cs)
+turns odd c cs = not odd && (c.code == backslash) && not (begins_with lower_u cs)
 
 -- an escape's value, the byte behind it, and the text behind it
 pub record Escape : Type 0 where
@@ -24,7 +32,7 @@ pub record Escape : Type 0 where
 
 abbrev pub behind_marks : List Character → List Character
 behind_marks [] = []
-behind_marks (c ∷ cs) = if c.code == 117 then behind_marks cs else c ∷ cs
+behind_marks (c ∷ cs) = if c.code == lower_u then behind_marks cs else c ∷ cs
 
 abbrev pub is_hexadecimal : ℕ → Bool
 is_hexadecimal code = nat_le (digit_value code) 15

@@ -1,4 +1,4 @@
 pub mod Decoding
 pub mod Escapes
 pub mod Places
-pub mod Views
+pub mod way

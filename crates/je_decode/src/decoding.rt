@@ -1,6 +1,6 @@
 //! From bytes to characters.
-ghost use Rattle.std.specs.Prelude.{◌≡◌, ◌≤◌, ◌^◌, length, IfOk};
-ghost use Rattle.je_decode.specs.Decoding.{ends_in_mark, without_mark, IsDecoded};
+ghost use Rattle.std.specs.Prelude.{◌≡◌, ◌≤◌, ◌^◌, length, IfOk, IfErr};
+ghost use Rattle.je_decode.specs.Decoding.{ends_in_mark, without_mark, Decodes, IsRefused};
 
 use crate::character::Character;
 use crate::escapes::translate;
@@ -8,11 +8,15 @@ use crate::fault::DecodeFault;
 use crate::places::place_characters;
 use std::alloc::Global;
 
+/// The character that is dropped where it is a file's last.
+const CONTROL_Z: u32 = '\u{1a}' as u32;
+
 /// The characters of a source file of at most 1,048,576 bytes, or why it has none. A byte that isn't UTF-8 comes before a
 /// malformed escape.
 pub fn decode(alloc: Global, bytes: &[u8]) -> Result<Vec<Character>, DecodeFault>
     requires { length bytes.now ≤ 2 ^ 20 }
-    ensures value { IsDecoded result bytes.now }
+    ensures ok { IfOk result (λ all. Decodes bytes.now all.items) }
+    ensures fault { IfErr result (IsRefused bytes.now) }
     ensures few { IfOk result (λ all. length all.items ≤ length bytes.now) }
 {
     let text = match str::from_utf8(bytes) {
@@ -42,7 +46,7 @@ fn ends_in_mark(all: &[Character]) -> bool
     ensures { result ≡ ends_in_mark all.now }
 {
     match all.last() {
-        Some(c) => c.code == 26,
+        Some(c) => c.code == CONTROL_Z,
         None => false,
     }
 }

@@ -1,12 +1,17 @@
 //! Unicode escapes.
-ghost use Rattle.std.specs.Prelude.{◌≡◌, ◌<◌, ◌≤◌, ◌+◌, ◌*◌, length, option_map, IfSome, IfOk, IsTrue, if◌then◌else◌};
+ghost use Rattle.std.specs.Prelude.{◌≡◌, ◌<◌, ◌≤◌, ◌+◌, ◌*◌, length, option_map, false, IfSome, IfOk, IfErr, IsTrue, if◌then◌else◌};
 ghost use Rattle.std.specs.Char.{digit_value};
-ghost use Rattle.je_decode.specs.Escapes.{begins_with, opens, turns, behind_marks, is_hexadecimal, one_digit, escape, is_high, is_low, pair, low_half, paired, piece};
-ghost use Rattle.je_decode.specs.Views.{escape_said, piece_said, IsTranslated};
+ghost use Rattle.je_decode.specs.Escapes.{begins_with, opens, turns, behind_marks, is_hexadecimal, one_digit, escape, is_high, is_low, pair, low_half, paired, piece, Translates};
+ghost use Rattle.je_decode.specs.way.Views.{escape_said, piece_said, IsUntranslated};
 
 use crate::character::Character;
 use crate::fault::DecodeFault;
 use std::alloc::Global;
+
+/// The character that begins an escape.
+const BACKSLASH: u32 = '\\' as u32;
+/// The character behind an escape's backslash.
+const LOWER_U: u32 = 'u' as u32;
 
 /// An escape's value, the byte behind it, and the text behind it.
 #[derive(Clone, Copy)]
@@ -35,13 +40,13 @@ fn begins_with(code: u32, rest: &[Character]) -> bool
 fn opens(odd: bool, c: Character, rest: &[Character]) -> bool
     ensures { result ≡ opens odd c rest.now }
 {
-    !odd && c.code == 92 && begins_with(117, rest)
+    !odd && c.code == BACKSLASH && begins_with(LOWER_U, rest)
 }
 
 fn turns(odd: bool, c: Character, rest: &[Character]) -> bool
     ensures { result ≡ turns odd c rest.now }
 {
-    !odd && c.code == 92 && !begins_with(117, rest)
+    !odd && c.code == BACKSLASH && !begins_with(LOWER_U, rest)
 }
 
 fn behind_marks(text: &[Character]) -> &[Character]
@@ -50,7 +55,7 @@ fn behind_marks(text: &[Character]) -> &[Character]
 {
     let mut rest = text;
     while let Some((c, behind)) = rest.split_first() {
-        if c.code != 117 {
+        if c.code != LOWER_U {
             return rest;
         }
         rest = behind;
@@ -169,7 +174,8 @@ fn piece(odd: bool, c: Character, rest: &[Character]) -> Option<PieceFound<'_>>
 
 /// The characters of a text, its escapes translated.
 pub fn translate(alloc: Global, raw: &[Character]) -> Result<Vec<Character>, DecodeFault>
-    ensures value { IsTranslated result raw.now }
+    ensures ok { IfOk result (λ all. Translates false raw.now all.items) }
+    ensures fault { IfErr result (IsUntranslated raw.now) }
     ensures few { IfOk result (λ all. length all.items ≤ length raw.now) }
 {
     let mut all = Vec::new(alloc);

@@ -6,6 +6,7 @@ ghost use Rattle.je_lexer.specs.Classes.{is_space, ends_line, starts_name, conti
 use crate::characters::{CARRIAGE_RETURN, FORM_FEED, LINE_FEED, SPACE, TAB};
 use je_decode::Character;
 
+/// White space: a space, a tab, a form feed, CR or LF (JLS 3.6).
 pub fn is_space(code: u32) -> bool
     ensures { result ≡ is_space code }
 {
@@ -16,12 +17,14 @@ pub fn is_space(code: u32) -> bool
         || code == LINE_FEED
 }
 
+/// CR or LF (JLS 3.4).
 pub fn ends_line(code: u32) -> bool
     ensures { result ≡ ends_line code }
 {
     code == LINE_FEED || code == CARRIAGE_RETURN
 }
 
+/// A character that begins an identifier or a keyword: one of XID_Start, `_` or `$` (JLS 3.8).
 #[tactic(auto, unfolding(crate::specs::Classes::starts_name))]
 pub fn starts_name(code: u32) -> bool
     ensures { result ≡ starts_name code }
@@ -32,6 +35,7 @@ pub fn starts_name(code: u32) -> bool
     }
 }
 
+/// A character that goes on an identifier or a keyword: one of XID_Continue, or `$` (JLS 3.8).
 #[tactic(auto, unfolding(crate::specs::Classes::continues_name))]
 pub fn continues_name(code: u32) -> bool
     ensures { result ≡ continues_name code }
@@ -42,6 +46,7 @@ pub fn continues_name(code: u32) -> bool
     }
 }
 
+/// Whether the character of this code point stands at the front.
 pub fn begins_with(code: u32, text: &[Character]) -> bool
     ensures { result ≡ begins_with code text.now }
 {
@@ -51,6 +56,7 @@ pub fn begins_with(code: u32, text: &[Character]) -> bool
     }
 }
 
+/// What stands behind the first character, if there is one.
 pub fn tail(text: &[Character]) -> &[Character]
     ensures { result.now ≡ tail text.now }
 {
@@ -73,6 +79,7 @@ pub fn digit(radix: u32, code: u32) -> Option<u32>
     }
 }
 
+/// A digit in a radix of at most 36.
 pub fn is_digit_below(radix: u32, code: u32) -> bool
     requires small { radix ≤ 36 }
     requires some { 2 ≤ radix }
@@ -81,6 +88,7 @@ pub fn is_digit_below(radix: u32, code: u32) -> bool
     digit(radix, code).is_some()
 }
 
+/// Whether a digit in a radix of at most 36 stands at the front.
 pub fn begins_with_digit(radix: u32, text: &[Character]) -> bool
     requires small { radix ≤ 36 }
     requires some { 2 ≤ radix }

@@ -19,7 +19,9 @@ pub enum Cut {
     Blank(usize),
     /// An identifier or a keyword.
     Word(usize),
+    /// A separator or operator.
     Symbol(Symbol, usize),
+    /// An integer literal.
     Number(Number, usize),
     /// A character or string literal, with its quotes.
     Literal(usize),
@@ -40,6 +42,7 @@ pub fn end_of(end: u32, text: &[Character]) -> u32
     last
 }
 
+/// The byte at which the text begins; the file's end where it is empty.
 pub fn start_of(file_end: u32, text: &[Character]) -> u32
     ensures { result ≡ start_of file_end text.now }
 {

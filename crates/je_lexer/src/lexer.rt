@@ -122,7 +122,7 @@ pub fn lex(alloc: Global, file: u16, bytes: &[u8]) -> Result<Tokens, LexFault>
 
 /// The fault of bytes that have no characters.
 fn undecoded(file: u16, fault: DecodeFault, bytes: &[u8]) -> LexFault
-    requires why { IsRefused fault bytes.now }
+    requires why { IsRefused bytes.now fault }
     requires small { length bytes.now ≤ 2 ^ 20 }
     ensures { IsUnlexed file bytes.now result }
 {

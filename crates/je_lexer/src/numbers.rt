@@ -13,7 +13,9 @@ use je_decode::Character;
 /// An integer literal.
 #[derive(Clone, Copy, PartialEq, Eq, Debug)]
 pub struct Number {
+    /// It is written in decimal digits, and not in octal or hexadecimal ones.
     pub decimal: bool,
+    /// It ends in `l` or `L`.
     pub long: bool,
     /// What its digits say, below 2 to the 64th.
     pub value: u64,

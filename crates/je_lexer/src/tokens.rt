@@ -78,6 +78,7 @@ pub fn spell(alloc: Global, front: &[Character]) -> Result<String, Memory>
     Ok(text)
 }
 
+/// The kind of a word: the keyword that it is, or an identifier.
 #[tactic(auto, unfolding(crate::specs::Tokens::word_kind))]
 pub fn word_kind(text: &str) -> TokenKind
     ensures { result ≡ word_kind text.now }
@@ -88,6 +89,7 @@ pub fn word_kind(text: &str) -> TokenKind
     }
 }
 
+/// The kind of an integer literal.
 pub fn number_kind(n: Number) -> TokenKind
     ensures { result ≡ number_kind n }
 {
