@@ -50,5 +50,5 @@ pub fn exec(
     }
     context.units -= 1;
     context.begun += 1;
-    begin_stmt(node, &mut context.frames)
+    begin_stmt(context, heap, program, node)
 }
