@@ -9,10 +9,12 @@ use Rattle.je_core.specs.declared.types.Ty.{Ty}
 use Rattle.je_core.specs.declared.types.Base.TheVariants.{Int as IntBase, Void as VoidBase, Class as ClassBase}
 use Rattle.je_core.specs.declared.value.Value.{Value}
 use Rattle.je_core.specs.declared.value.Value.TheVariants.{Int, Null, Ref}
-use Rattle.je_core.specs.declared.program.Field.{Field as FieldOf}
+use Rattle.je_core.specs.declared.program.Access.TheVariants.{Package}
+use Rattle.je_core.specs.declared.program.Flags.{Flags}
+use Rattle.je_core.specs.declared.program.Sort.TheVariants.{Class as ClassSort}
 use Rattle.je_core.specs.declared.program.Local.{Local as LocalOf}
 use Rattle.je_core.specs.declared.expr.BinOp.TheVariants.{Add, Sub}
-use Rattle.je_core.specs.Core.{Core, CoreForm, Const, Local, This, Field, Assign, Binary, CallVirtual, CallExact, New, CoreStmt, CoreStmtForm, Block, Do, Return, CoreMethod, CoreProgram, node, stmt, cores, maybe_core, core_stmts}
+use Rattle.je_core.specs.Core.{Core, CoreForm, Const, Local, This, Field, Assign, Binary, CallVirtual, CallExact, New, CoreStmt, CoreStmtForm, Block, Do, Return, CoreField, CoreMethod, CoreClass, CoreProgram, node, stmt, cores, maybe_core, core_stmts}
 use Rattle.je_java.specs.declared.call.Receiver.TheVariants as receiver
 use Rattle.je_java.specs.Raised.{library_class, null_pointer}
 use Rattle.je_java.specs.World.{World}
@@ -48,17 +50,39 @@ increased e = expr (Binary Add e (constant (Int (pos 1))))
 abbrev pub class_a : Ty
 class_a = record { base = ClassBase (record { 0 = 0 }); dims = 0 }
 
-abbrev pub field : Bool → FieldOf
-field is_static = record { name = record { 0 = 0 }; span = nowhere; ty = int; is_static = is_static }
+abbrev pub field : Bool → CoreField
+field is_static = record { name = record { 0 = 0 }; span = nowhere; ty = int; is_static = is_static; is_final = false; access = Package; constant = None }
 
 abbrev pub local_of : Ty → LocalOf
 local_of ty = record { name = record { 0 = 0 }; ty = ty; is_final = false; span = nowhere }
 
+abbrev pub flags_of : Bool → Flags
+flags_of is_static = record { is_static = is_static; is_final = false; is_abstract = false; is_native = false; is_finalizer = false; access = Package }
+
 abbrev pub method : Bool → Ty → List LocalOf → CoreStmt → CoreMethod
-method is_static returns locals body = record { name = record { 0 = 0 }; span = nowhere; params = []; returns = returns; flags = record { is_static = is_static }; locals = locals; body = Some body }
+method is_static returns locals body = record { name = record { 0 = 0 }; span = nowhere; params = []; returns = returns; flags = flags_of is_static; throws = []; locals = locals; body = Some body }
+
+abbrev pub class_of_methods : List CoreMethod → CoreClass
+class_of_methods methods = record {
+  name = record { 0 = 0 };
+  span = nowhere;
+  kind = record { sort = ClassSort; is_abstract = false; is_final = false; is_static = false };
+  superclass = None;
+  interfaces = [];
+  heads = [];
+  fields = field false ∷ field true ∷ field false ∷ [];
+  initializers = [];
+  methods = methods;
+  enclosing = None;
+  captured = 0;
+  within = None;
+  nth = 0;
+  top = record { 0 = 0 };
+  bridges = [];
+}
 
 abbrev pub program : List CoreMethod → CoreProgram
-program methods = record { classes = (record { name = record { 0 = 0 }; span = nowhere; superclass = None; fields = field false ∷ field true ∷ field false ∷ []; methods = methods }) ∷ []; texts = [] }
+program methods = record { classes = class_of_methods methods ∷ []; texts = [] }
 
 abbrev pub body : List CoreStmt → CoreStmt
 body parts = statement (Block [] (core_stmts parts))
@@ -117,7 +141,7 @@ constructor = method false void [] (body [])
 
 -- new A()
 abbrev pub made_a : Core
-made_a = expr (New (record { 0 = 0 }) 1 (cores []))
+made_a = expr (New (record { 0 = 0 }) 1 (cores []) [] nowhere)
 
 -- static A f() { return new A(); }: Block, Return, New, the 2 slots of A, and the constructor's Block
 makes : run (method true class_a [] (body (gives made_a ∷ [])) ∷ constructor ∷ []) [] ≡
