@@ -1,15 +1,12 @@
 -- What a tree leaves is the list without its first tokens, though a type may leave a part of a `>>` or `>>>`.
-use Rattle.std.proofs.Common.{◌≡◌, ℕ, suc, ◌-◌, ◌<◌, ◌≤◌, false, List, [], ◌∷◌, length, drop, refl, ◌∙◌, ap, arith}
+use Rattle.std.proofs.Common.{◌≡◌, ℕ, suc, ◌-◌, ◌<◌, false, List, [], ◌∷◌, length, drop, arith}
 use Rattle.je_base.specs.declared.span.Span.{Span}
 use Rattle.je_token.specs.declared.token.Token.{Token}
 use Rattle.je_ast.specs.declared.decl.Modifier.{Modifier}
-use Rattle.je_ast.specs.Types.{QualifiedName, TypeName, TypeNames}
+use Rattle.je_ast.specs.Types.{QualifiedName, TypeName}
 use Rattle.je_ast.specs.Trees.{Expression, Expressions, Statement, Statements, Groups, Catches, Member, Members, MaybeBlock, Declaration}
-use Rattle.je_ast.specs.Spans.{span_of, type_span, statement_span, member_span, declaration_span}
-use Rattle.je_grammar.specs.Tokens.{Closes, one_closes, first_of_two, first_of_three}
-use Rattle.je_grammar.specs.Types.{simple_name, qualified_name, no_dims, more_dims, primitive_type, reference_type, plain_ref, ref_with_arguments, last_argument, more_arguments, SpellsName, SpellsDims, SpellsTypeName, SpellsRef, SpellsTypeArguments}
+use Rattle.je_grammar.specs.Types.{simple_name, qualified_name, no_dims, more_dims, primitive_type, reference_type, plain_ref, ref_with_arguments, last_argument, more_arguments, SpellsName, SpellsDims, SpellsTypeName}
 use Rattle.je_grammar.specs.Grammar.{primitive_element, class_element, is_literal, is_simple_name, is_this, is_outer_this, is_parens, is_select, is_super_select, is_call, is_call_on, is_super_call, is_index, is_new, is_new_anonymous, is_new_array, is_new_array_of, is_primitive_cast, is_class_cast, is_prefix, is_postfix, is_binary, is_instance_of, is_conditional, is_assign, no_arguments, some_arguments, last_length, more_lengths, is_array_init, no_inits, comma_alone, some_inits, last_init, last_init_and_comma, more_inits, is_block, is_empty, is_labelled, is_if_only, is_if_else, is_while, is_do, is_for, is_for_each, is_switch, is_break, is_continue, is_return, is_throw, is_try, is_try_finally, is_expression_statement, no_catches, more_catches, no_groups, last_labels, more_groups, empty_block, full_block, is_local, is_local_class, is_statement, is_type, is_field, is_method, is_constructor, is_initializer, is_static_initializer, without_body, with_body, is_body, no_members, lone_semicolon, more_members, is_class, is_interface, class_declaration, interface_declaration, SpellsElement, Spells, SpellsArguments, SpellsLengths, SpellsArrayInit, SpellsInits, SpellsMoreInits, SpellsStatement, SpellsCatches, SpellsGroups, SpellsBlock, SpellsBlockStatement, SpellsMember, SpellsMaybeBlock, SpellsBody, SpellsMembers, SpellsDeclaration, SpellsClass, SpellsInterface, SpellsEnum, enum_declaration, is_enum}
-use Rattle.je_grammar.specs.Tokens.{left_of}
 use Rattle.je_grammar.specs.Types.{SpellsTypeName, has_arguments}
 use Rattle.je_grammar.specs.Laws.{LeavesSuffix}
 use Rattle.je_grammar.proofs.Through.{Stays, through-SpellsName, through-SpellsTypeName, through-Spells, through-SpellsRef, through-SpellsArguments, through-SpellsElement, through-SpellsDims, through-SpellsList, through-SpellsInit, through-SpellsCondition, through-SpellsStatement, through-SpellsForInitializer, through-SpellsMaybe, through-SpellsMaybeSteps, through-SpellsFinal, through-SpellsMaybeLabel, through-SpellsBlock, through-SpellsCatches, through-SpellsLabels, through-SpellsStatements, through-SpellsVariables, through-SpellsModifiers, through-SpellsResult, through-SpellsFormals, through-SpellsThrows, through-SpellsConstructorInvocation, through-SpellsMember, through-SpellsTypeParameters, through-SpellsExtends, through-SpellsImplements, through-SpellsExtendsAll, through-SpellsMaybeConstants, through-SpellsMaybeSign}
