@@ -1,21 +1,25 @@
 -- The members of a class, so far and still to come.
-use Rattle.std.proofs.Common.{◌≡◌, ◌∙◌, ℕ, ◌+◌, ◌≤◌, List, [], ◌∷◌, ◌++◌, drop, length, sym, ap, subst, arith, Option, Some, None, true, false}
-use Rattle.std.specs.Prelude.{IfSome, IfNone, slice_get, codes}
-use Rattle.je_base.specs.Names.{text_of, EachOnce}
+use Rattle.std.proofs.Common.{◌≡◌, ◌∙◌, ℕ, ◌+◌, ◌≤◌, List, [], ◌∷◌, ◌++◌, length, map, refl, sym, ap, arith, Bool, Option, Some, None, true, false}
+use Rattle.std.specs.Prelude.{IfSome, IfNone, slice_get, codes, option_map}
+use Rattle.je_base.specs.Names.{text_of, number_of, EachOnce}
 use Rattle.one_program.specs.Names.{AreDistinct}
-use Rattle.std.proofs.lemmas.List.{append_assoc, append-nil}
+use Rattle.std.proofs.lemmas.List.{append_assoc, append-nil, map-append}
+use Rattle.je_core.specs.declared.program.Class.{Class}
 use Rattle.je_core.specs.declared.program.Field.{Field}
 use Rattle.je_core.specs.declared.program.Method.{Method}
+use Rattle.je_core.specs.declared.program.Program.{Program}
+use Rattle.je_core.specs.Core.{CoreMethod, CoreProgram}
+use Rattle.je_core.specs.View.{method_view, program_view}
 use Rattle.je_base.specs.declared.span.NameId.{NameId}
-use Rattle.one_syntax.specs.Trees.{MemberTree, field, method}
-use Rattle.one_program.specs.Scope.{Members, Head, head_names}
+use Rattle.one_syntax.specs.Trees.{ExprTree, StatementTree, MemberTree, OneTree, field, method}
+use Rattle.one_program.specs.Scope.{Members, Head, head_names, members_of, fields_of}
 use Rattle.one_program.specs.Conditions.{MemberFits, MembersFit, is_word, java_lang}
-use Rattle.one_program.specs.Elaboration.{AreFields, no_fields, more_fields, IsField, AreMethods, no_methods}
+use Rattle.one_program.specs.Elaboration.{◌>>=◌, nowhere, core_method, methods_of, default_constructor, int_field, program_with, program_of}
 use Rattle.one_program.specs.Sizes.{declarations}
-use Rattle.one_program.specs.Built.{AddsMethod, HeadsFit}
+use Rattle.one_program.specs.way.Built.{HeadsFit, method_views, AddsMethod}
 
 pub record MethodsSoFar (names : List (List ℕ)) (members : Members) (all rest : List MemberTree) (made : List Method) : Type 0 where
-  pub are : (further : List Method) → AreMethods members rest further → AreMethods members all (made ++ further)
+  pub are : (further : List CoreMethod) → methods_of members rest ≡ Some further → methods_of members all ≡ Some (method_views made ++ further)
   pub fit : MembersFit names members rest → MembersFit names members all
   pub needed : MembersFit names members all → MembersFit names members rest
 
@@ -26,25 +30,43 @@ methods-begin names members all = record { are = λ further a. a; fit = λ a. a;
 pub methods-more : (names : List (List ℕ)) (members : Members) (all rest : List MemberTree) (m : MemberTree) (made after : List Method) → AddsMethod members m made after → MemberFits names members m →
     MethodsSoFar names members all (m ∷ rest) made → MethodsSoFar names members all rest after
 methods-more names members all rest m made after a fits h = record {
-  are = λ further b. subst (λ (ms : List Method). AreMethods members all (ms ++ further)) (sym a.after_is) (rw append_assoc (h.are (a.added ++ further) (a.are rest further b)));
+  are = λ further b. h.are (method_views a.added ++ further) (a.are rest further b)
+      ∙ ap (λ (ms : List CoreMethod). Some ms) (sym (append_assoc (method_views made) (method_views a.added) further) ∙ ap (λ (ms : List CoreMethod). ms ++ further) (sym (ap method_views a.after_is ∙ map-append method_view made a.added)));
   fit = λ b. h.fit (fits, b);
   needed = λ b. (h.needed b).1;
 }
 
-pub methods-all : (names : List (List ℕ)) (members : Members) (all : List MemberTree) (made : List Method) → MethodsSoFar names members all [] made → AreMethods members all made
-methods-all names members all made h = subst (AreMethods members all) (append-nil made) (h.are [] no_methods)
+pub methods-all : (names : List (List ℕ)) (members : Members) (all : List MemberTree) (made : List Method) → MethodsSoFar names members all [] made → methods_of members all ≡ Some (method_views made)
+methods-all names members all made h = h.are [] refl ∙ ap (λ (ms : List CoreMethod). Some ms) (append-nil (method_views made))
 
--- one field more
-pub fields-more : (names : List NameId) (i : ℕ) (x : NameId) (fields : List Field) (f : Field) → drop i names ≡ x ∷ drop (i + 1) names → IsField x f →
-    ((further : List Field) → AreFields (drop i names) further → AreFields names (fields ++ further)) →
-    (further : List Field) → AreFields (drop (i + 1) names) further → AreFields names (fields ++ f ∷ [] ++ further)
-fields-more names i x fields f e d h further a =
-    rw append_assoc (h (f ∷ further) (subst (λ (xs : List NameId). AreFields xs (f ∷ further)) (sym e) (more_fields d a)))
+-- the core method of a member that is a method
+pub method-added : (members : Members) (is_static : Bool) (x : NameId) (params : List NameId) (body : List StatementTree) (result : ExprTree) (before after : List Method) (made : Method) →
+    after ≡ before ++ made ∷ [] → core_method members is_static x params body result ≡ Some (method_view made) → AddsMethod members (method is_static x params body result) before after
+method-added members is_static x params body result before after made e is = record {
+  added = made ∷ [];
+  after_is = e;
+  are = λ ms further a. rw (is, a) refl;
+}
 
--- no field is left
-pub fields-all : (names : List NameId) (i : ℕ) (fields : List Field) → drop i names ≡ [] →
-    ((further : List Field) → AreFields (drop i names) further → AreFields names (fields ++ further)) → AreFields names fields
-fields-all names i fields e h = subst (AreFields names) (append-nil fields) (h [] (subst (λ (xs : List NameId). AreFields xs []) (sym e) no_fields))
+-- the program of one class in memory
+pub program-seen : (x new : NameId) (fields : List Field) (methods : List Method) (constructor : Method) (class : Class) (program : Program) → class.name ≡ x → class.span ≡ nowhere →
+    class.superclass ≡ None → class.fields.items ≡ fields → class.methods.items ≡ methods ++ constructor ∷ [] → method_view constructor ≡ default_constructor new →
+    program.classes.items ≡ class ∷ [] → program.texts.items ≡ [] → program_view program ≡ program_with x fields (method_views methods) new
+unfolding program_view
+program-seen x new fields methods constructor class program named spanned superclass fields_are methods_are made classes texts =
+    rw (classes, texts, named, spanned, superclass, fields_are, methods_are, map-append method_view methods (constructor ∷ []), made) refl
+
+-- the program of a One, from the parts that the code makes
+pub program-made : (names : List (List ℕ)) (one : OneTree) (fields : List Field) (methods : List CoreMethod) (program : CoreProgram) → methods_of (members_of one) one.members ≡ Some methods →
+    fields ≡ map int_field (fields_of one.members) → option_map (program_with one.name fields methods) (number_of names (codes "new")) ≡ Some program → program_of names one ≡ Some program
+program-made names one fields methods program m f p =
+    let with = λ (fs : List Field) (o : Option NameId). o >>= λ new. Some (program_with one.name fs methods new) in
+    ap (λ o. o >>= λ (ms : List CoreMethod). number_of names (codes "new") >>= λ new. Some (program_with one.name (map int_field (fields_of one.members)) ms new)) m
+    ∙ ap (λ (fs : List Field). with fs (number_of names (codes "new"))) (sym f) ∙ by (number_of names (codes "new")) ∙ p
+  where
+    by : (o : Option NameId) → (o >>= λ new. Some (program_with one.name fields methods new)) ≡ option_map (program_with one.name fields methods) o
+    by None = refl
+    by (Some new) = refl
 
 -- there are as many declarations as members, or more
 pub length-declarations : (ms : List MemberTree) → length ms ≤ declarations ms

@@ -1,49 +1,43 @@
 -- The parts of a method, so far and still to come.
-use Rattle.std.proofs.Common.{◌≡◌, ℕ, suc, ◌+◌, ◌-◌, ◌<◌, List, [], ◌∷◌, ◌++◌, drop, length, refl, sym, ap, subst, arith}
-use Rattle.std.proofs.lemmas.List.{append_assoc, append-nil}
-use Rattle.je_core.specs.declared.program.Local.{Local}
-use Rattle.je_core.specs.declared.program.Method.{Method}
+use Rattle.std.proofs.Common.{◌≡◌, ◌∙◌, ℕ, suc, ◌+◌, ◌-◌, ◌<◌, List, ◌∷◌, length, map, refl, Bool, Some, sym, ap, arith}
 use Rattle.je_base.specs.declared.span.NameId.{NameId}
+use Rattle.je_core.specs.declared.program.Local.{Local}
+use Rattle.je_core.specs.declared.types.Ty.{Ty}
+use Rattle.je_core.specs.Core.{CoreMethod, CoreStmt}
+use Rattle.je_core.specs.View.{stmt_views}
 use Rattle.one_syntax.specs.Trees.{StatementTree, ExprTree}
 use Rattle.one_program.specs.declared.body.MadeBody.{MadeBody}
-use Rattle.one_program.specs.Scope.{Head, Variable, Members, scope_of}
-use Rattle.one_program.specs.Elaboration.{AreLocals, no_locals, more_locals, Declares, numbers_from, IsMethod, IsBlock}
-use Rattle.one_program.specs.Bodies.{IsMadeBody, IsMethodOfBody}
+use Rattle.one_program.specs.Scope.{Variable, Members, scope_of}
+use Rattle.one_program.specs.Elaboration.{◌>>=◌, nowhere, int_type, declared, block, numbers_from, body_of, locals_of, method_with, core_method}
+use Rattle.one_program.specs.way.Bodies.{IsMadeBody}
 
--- one declaration more
-pub locals-more : (variables : List Variable) (i : ℕ) (v : Variable) (locals : List Local) (l : Local) → drop i variables ≡ v ∷ drop (i + 1) variables → Declares v l →
-    ((further : List Local) → AreLocals (drop i variables) further → AreLocals variables (locals ++ further)) →
-    (further : List Local) → AreLocals (drop (i + 1) variables) further → AreLocals variables (locals ++ l ∷ [] ++ further)
-locals-more variables i v locals l e d h further a =
-    rw append_assoc (h (l ∷ further) (subst (λ (vs : List Variable). AreLocals vs (l ∷ further)) (sym e) (more_locals d a)))
-
--- no declaration is left
-pub locals-all : (variables : List Variable) (i : ℕ) (locals : List Local) → drop i variables ≡ [] →
-    ((further : List Local) → AreLocals (drop i variables) further → AreLocals variables (locals ++ further)) → AreLocals variables locals
-locals-all variables i locals e h =
-    subst (AreLocals variables) (append-nil locals) (h [] (subst (λ (vs : List Variable). AreLocals vs []) (sym e) no_locals))
+abbrev pub method_of_parts : Bool → NameId → List Ty → List Local → CoreStmt → CoreMethod
+method_of_parts is_static x types locals body = record {
+  name = x;
+  span = nowhere;
+  params = types;
+  returns = int_type;
+  flags = record { is_static = is_static };
+  locals = locals;
+  body = Some body;
+}
 
 -- one number more
 pub numbers-more : (i to : ℕ) → i < to → numbers_from i (to - i) ≡ i ∷ numbers_from (i + 1) (to - (i + 1))
 numbers-more i to h = ap (numbers_from i) (let e : to - i ≡ suc (to - (i + 1)) = omega arith in e)
 
-length-locals : (vs : List Variable) (ls : List Local) → AreLocals vs ls → length vs ≡ length ls
-length-locals vs ls no_locals = refl
-length-locals (v ∷ vs) (l ∷ ls) (more_locals d a) = ap suc (length-locals vs ls a)
+-- a method in memory, by its parts
+pub method-seen : (is_static : Bool) (x : NameId) (params : List NameId) (variables : List Variable) (parts : List CoreStmt) (types : List Ty) (locals : List Local) (body : CoreStmt) →
+    types ≡ map (λ p. int_type) params → locals ≡ map declared variables → body ≡ block (numbers_from (length params) (length variables - length params)) parts →
+    method_of_parts is_static x types locals body ≡ method_with is_static x params variables parts
+method-seen is_static x params variables parts types locals body p q r = rw (p, q, r) refl
 
 -- the method that a body makes is the method's
-pub method-of-body : (members : Members) (head : Head) (params : List NameId) (statements : List StatementTree) (result : ExprTree) (body : MadeBody) (made : Method) →
-    IsMadeBody (scope_of members head.is_static params statements) statements result body → IsMethodOfBody head params body.locals.items body.parts.items made →
-    IsMethod members head.is_static head.name params statements result made
-method-of-body members head params statements result body made b m = record {
-  name = m.name;
-  params_are = m.params_are;
-  returns = m.returns;
-  flag = m.flag;
-  locals = subst (λ (vs : List Variable). AreLocals vs made.locals.items) b.locals m.locals_are;
-  block = m.block;
-  has_body = m.has_body;
-  parts = body.parts.items;
-  is_block = subst (λ n. IsBlock m.block.value (numbers_from (length params) (n - length params)) body.parts.items) (length-locals body.locals.items made.locals.items m.locals_are) m.is_block;
-  is_body = b.parts;
-}
+pub method-of-body : (members : Members) (is_static : Bool) (x : NameId) (params : List NameId) (statements : List StatementTree) (result : ExprTree) (body : MadeBody) (made : CoreMethod) →
+    IsMadeBody (scope_of members is_static params statements) statements result body → made ≡ method_with is_static x params body.locals.items (stmt_views body.parts.items) →
+    core_method members is_static x params statements result ≡ Some made
+method-of-body members is_static x params statements result body made b m =
+    let locals = locals_of (scope_of members is_static params statements) statements in
+    ap (λ o. o >>= λ (parts : List CoreStmt). Some (method_with is_static x params locals parts)) b.parts
+    ∙ ap (λ (vs : List Variable). Some (method_with is_static x params vs (stmt_views body.parts.items))) (sym b.locals)
+    ∙ ap (λ (n : CoreMethod). Some n) (sym m)

@@ -1,16 +1,17 @@
 -- What the code makes of a statement is its node.
-use Rattle.je_core.specs.declared.expr.Expr.{Expr}
+use Rattle.std.proofs.Common.{◌≡◌, ◌∙◌, Some, ap, sym}
 use Rattle.je_base.specs.declared.span.NameId.{NameId}
-use Rattle.je_core.specs.declared.stmt.Stmt.{Stmt}
-use Rattle.one_syntax.specs.Trees.{ExprTree, assign}
+use Rattle.je_core.specs.Core.{Core, CoreStmt}
+use Rattle.one_syntax.specs.Trees.{ExprTree, name, assign}
 use Rattle.one_program.specs.declared.scope.Place.{Place}
-use Rattle.one_program.specs.declared.scope.Place.TheVariants as place
 use Rattle.one_program.specs.Scope.{Scope}
-use Rattle.one_program.specs.Seen.{IsPlace}
-use Rattle.one_program.specs.Elaborated.{IsPlaceNode, IsStored}
-use Rattle.one_program.specs.Elaboration.{IsExpr, IsStatement, is_assign_local, is_assign_field, int_type}
+use Rattle.one_program.specs.Elaboration.{◌>>=◌, int_type, stores, core_of, statement_of}
+use Rattle.one_program.specs.way.Seen.{IsPlace}
+use Rattle.one_program.specs.way.Elaborated.{place_node}
+use Rattle.one_program.proofs.Exprs.{name-node}
 
-pub assign-node : (scope : Scope) (x : NameId) (t : ExprTree) (p : Place) (to value : Expr) (node : Stmt) → IsPlace scope x p → IsPlaceNode p to → IsExpr scope t value →
-    IsStored to value int_type node → IsStatement scope (assign x t) node
-assign-node scope x t (place.Local number) to value node h n e s = is_assign_local h s.performed s.is_assign n e
-assign-node scope x t (place.OwnField number) to value node h n e s = is_assign_field h.0 h.1 s.performed s.is_assign n e
+pub assign-node : (scope : Scope) (x : NameId) (t : ExprTree) (p : Place) (to value : Core) (node : CoreStmt) → IsPlace scope x p → to ≡ place_node p → core_of scope t ≡ Some value →
+    node ≡ stores int_type to value → statement_of scope (assign x t) ≡ Some node
+assign-node scope x t p to value node h n e s =
+    ap (λ o. o >>= λ a. core_of scope t >>= λ b. Some (stores int_type a b)) (name-node scope x p to h n)
+    ∙ ap (λ o. o >>= λ b. Some (stores int_type to b)) e ∙ ap (λ (m : CoreStmt). Some m) (sym s)

@@ -3,9 +3,5 @@ pub mod Scope
 pub mod Constants
 pub mod Conditions
 pub mod Elaboration
-pub mod Nodes
-pub mod Seen
-pub mod Elaborated
-pub mod Bodies
 pub mod Sizes
-pub mod Built
+pub mod way

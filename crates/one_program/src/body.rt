@@ -5,7 +5,7 @@ ghost use Rattle.je_base.specs.declared.span.NameId.{NameId};
 ghost use Rattle.one_syntax.specs.Trees.{view_expr, view_statement};
 ghost use Rattle.one_program.specs.Scope.{Members as MembersOf, scope_of, objects_of, after};
 ghost use Rattle.one_program.specs.Conditions.{BodyFits};
-ghost use Rattle.one_program.specs.Bodies.{scope_at, parameters, IsMadeBody};
+ghost use Rattle.one_program.specs.way.Bodies.{scope_at, parameters, IsMadeBody};
 
 use crate::expr::expression;
 use crate::nodes;
@@ -36,7 +36,7 @@ pub fn make_body(
     ensures is { IfOk result (λ o. IfSome o (IsMadeBody (scope_of members.now is_static params.now (map view_statement statements.now)) (map view_statement statements.now) (view_expr result_tree.now))) }
     ensures few { IfOk result (λ o. IfSome o (λ made. length made.locals.items < 2 ^ 31)) }
     ensures fits { IfOk result (λ o. OnSome o (BodyFits (scope_of members.now is_static params.now (map view_statement statements.now)) (map view_statement statements.now) (view_expr result_tree.now))) }
-    ensures none { IfOk result (λ o. IfNone o (BodyFits (scope_of members.now is_static params.now (map view_statement statements.now)) (map view_statement statements.now) (view_expr result_tree.now) → ⊥)) }
+    ensures none { IfOk result (λ o. IfNone o (¬ BodyFits (scope_of members.now is_static params.now (map view_statement statements.now)) (map view_statement statements.now) (view_expr result_tree.now))) }
 {
     let objects = objects_of(alloc, statements)?;
     let mut locals = parameters(alloc, params)?;

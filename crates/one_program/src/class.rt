@@ -1,14 +1,15 @@
 // The class and its members.
 
-ghost use Rattle.std.specs.Prelude.{◌≡◌, ℕ, ◌<◌, ◌≤◌, ◌^◌, List, [], codes, true, Some, slice_get, map, length, IsTrue, OnOk, OnErr, IfOk, IfSome, OnSome, IfNone};
+ghost use Rattle.std.specs.Prelude.{◌≡◌, ℕ, ◌<◌, ◌≤◌, ◌^◌, List, [], codes, true, Some, slice_get, map, length, option_map, IsTrue, OnOk, OnErr, IfOk, IfSome, OnSome, IfNone};
 ghost use Rattle.std.specs.Bool.{OnTrue, OnFalse};
-ghost use Rattle.je_base.specs.Names.{interned, text_of};
+ghost use Rattle.je_base.specs.Names.{interned, number_of};
+ghost use Rattle.je_core.specs.View.{stmt_view, method_view, program_view};
 ghost use Rattle.one_syntax.specs.Trees.{view_member};
 ghost use Rattle.one_program.specs.Scope.{fields_of, heads_of};
 ghost use Rattle.one_program.specs.Conditions.{MemberFits, MembersFit, IsMain};
-ghost use Rattle.one_program.specs.Elaboration.{AreMethods, AreFields, IsField, IsDefaultConstructor, IsBlock};
+ghost use Rattle.one_program.specs.Elaboration.{methods_of, int_field, default_constructor as the_default_constructor, block, program_with};
 ghost use Rattle.one_program.specs.Sizes.{declarations, declarations_in};
-ghost use Rattle.one_program.specs.Built.{HeadsFit, AddsMethod, IsOneClass};
+ghost use Rattle.one_program.specs.way.Built.{HeadsFit, AddsMethod, method_views};
 
 use crate::method::make_method;
 use crate::names::are_distinct;
@@ -61,7 +62,7 @@ pub fn heads(alloc: Global, members: &[Member]) -> Result<Vec<Head>, Memory>
 /// The number of `main`; None exactly where the class's name or the heads of its members do not fit.
 pub fn main_of(names: &Names, members: &Members) -> Option<u32>
     ensures fits { IfSome result (λ main. HeadsFit names.now members.now main) }
-    ensures none { IfNone result ((main : ℕ) → HeadsFit names.now members.now main → ⊥) }
+    ensures none { IfNone result ((main : ℕ) → ¬ HeadsFit names.now members.now main) }
 {
     if is_java_lang(names, members.class)
         || !are_distinct(&members.fields)
@@ -77,7 +78,7 @@ pub fn main_of(names: &Names, members: &Members) -> Option<u32>
 fn static_without_parameters(name: NameId, heads: &[Head]) -> Option<u32>
     requires { length heads.now < 2 ^ 31 }
     ensures found { IfSome result (λ i. slice_get heads.now i ≡ Some (record { name = name; is_static = true; arity = 0 })) }
-    ensures none { IfNone result ((i : ℕ) → slice_get heads.now i ≡ Some (record { name = name; is_static = true; arity = 0 }) → ⊥) }
+    ensures none { IfNone result ((i : ℕ) → ¬ slice_get heads.now i ≡ Some (record { name = name; is_static = true; arity = 0 })) }
 {
     for (i, head) in heads.iter().enumerate() {
         if head.name.0 == name.0 && head.is_static && head.arity == 0 {
@@ -95,9 +96,9 @@ pub fn methods(
     trees: &[Member],
 ) -> Result<Option<Vec<Method>>, Memory>
     requires { declarations (map view_member trees.now) < 2 ^ 31 }
-    ensures are { IfOk result (λ o. IfSome o (λ methods. AreMethods members.now (map view_member trees.now) methods.items)) }
+    ensures are { IfOk result (λ o. IfSome o (λ methods. methods_of members.now (map view_member trees.now) ≡ Some (method_views methods.items))) }
     ensures fits { IfOk result (λ o. OnSome o (MembersFit names.now members.now (map view_member trees.now))) }
-    ensures none { IfOk result (λ o. IfNone o (MembersFit names.now members.now (map view_member trees.now) → ⊥)) }
+    ensures none { IfOk result (λ o. IfNone o (¬ MembersFit names.now members.now (map view_member trees.now))) }
 {
     let mut methods = Vec::new(alloc);
     for tree in trees {
@@ -119,7 +120,7 @@ fn add_method(
     requires { declarations_in (view_member tree.now) < 2 ^ 31 }
     ensures adds { IfOk result (λ added. OnTrue added (AddsMethod members.now (view_member tree.now) methods.old.items methods.new.items)) }
     ensures fits { IfOk result (λ added. OnTrue added (MemberFits names.now members.now (view_member tree.now))) }
-    ensures unfit { IfOk result (λ added. OnFalse added (MemberFits names.now members.now (view_member tree.now) → ⊥)) }
+    ensures unfit { IfOk result (λ added. OnFalse added (¬ MemberFits names.now members.now (view_member tree.now))) }
 {
     match tree {
         Member::Field { .. } => Ok(true),
@@ -147,7 +148,7 @@ fn add_method(
 
 /// The declarations of int fields.
 pub fn fields(alloc: Global, names: &[NameId]) -> Result<Vec<Field>, Memory>
-    ensures { IfOk result (λ fields. AreFields names.now fields.items) }
+    ensures { IfOk result (λ fields. fields.items ≡ map int_field names.now) }
 {
     let mut fields = Vec::new(alloc);
     for name in names {
@@ -157,7 +158,7 @@ pub fn fields(alloc: Global, names: &[NameId]) -> Result<Vec<Field>, Memory>
 }
 
 fn field(name: NameId) -> Field
-    ensures { IsField name result }
+    ensures { result ≡ int_field name }
 {
     Field {
         name,
@@ -176,7 +177,7 @@ pub fn one_class(
     names: &mut Names,
 ) -> Result<Program, Memory>
     requires { length names.old < 2 ^ 31 }
-    ensures is { IfOk result (λ program. IsOneClass names.new name fields.items methods.items program) }
+    ensures is { IfOk result (λ program. option_map (program_with name fields.items (method_views methods.items)) (number_of names.new (codes "new")) ≡ Some (program_view program)) }
     ensures names { OnOk result (names.new ≡ interned names.old (codes "new")) }
     ensures err { OnErr result (names.new ≡ names.old) }
 {
@@ -201,8 +202,8 @@ pub fn one_class(
 
 /// The constructor of a class that declares none.
 fn default_constructor(alloc: Global, name: NameId, body: Rc<Stmt>) -> Method
-    requires { IsBlock body.value [] [] }
-    ensures { (names : List (List ℕ)) → text_of names name ≡ Some (codes "new") → IsDefaultConstructor names result }
+    requires { stmt_view body.value ≡ block [] [] }
+    ensures { method_view result ≡ the_default_constructor name }
 {
     Method {
         name,

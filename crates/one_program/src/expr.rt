@@ -1,13 +1,13 @@
 // Expressions.
 
-ghost use Rattle.std.specs.Prelude.{◌≡◌, ◌≤◌, IfOk, IfSome, OnSome, IfNone};
-ghost use Rattle.je_core.specs.declared.expr.BinOp.{BinOp};
+ghost use Rattle.std.specs.Prelude.{◌≡◌, ◌≤◌, Some, IfOk, IfSome, OnSome, IfNone};
+ghost use Rattle.je_core.specs.View.{view, views};
 ghost use Rattle.je_java.specs.Steps.{operate};
 ghost use Rattle.one_syntax.specs.Trees.{view_expr, view_exprs, call, decimal, name as name_tree};
 ghost use Rattle.one_program.specs.Scope.{Scope};
 ghost use Rattle.one_program.specs.Conditions.{ExprFits, ArgsFit, IsIntName, greatest_int};
-ghost use Rattle.one_program.specs.Elaboration.{IsExpr, IsCall, AreExprs};
-ghost use Rattle.one_program.specs.Elaborated.{IsElaborated, IsNodeOf, IsJoined, IsOperation, IsPlaceNode, IsCallNode};
+ghost use Rattle.one_program.specs.Elaboration.{core_of, cores_of};
+ghost use Rattle.one_program.specs.way.Elaborated.{IsElaborated, IsJoined, IsOperation, node_of as the_node_of, place_node as the_place_node, call_node as the_call_node};
 
 use crate::nodes;
 use crate::scope::{Callee, Place, Scope};
@@ -28,7 +28,7 @@ pub enum Elaborated {
 fn elaborate(alloc: Global, scope: &Scope<'_>, tree: &Expr) -> Result<Option<Elaborated>, Memory>
     ensures is { IfOk result (λ o. IfSome o (IsElaborated scope.now (view_expr tree.now))) }
     ensures fits { IfOk result (λ o. OnSome o (ExprFits scope.now (view_expr tree.now))) }
-    ensures none { IfOk result (λ o. IfNone o (ExprFits scope.now (view_expr tree.now) → ⊥)) }
+    ensures none { IfOk result (λ o. IfNone o (¬ ExprFits scope.now (view_expr tree.now))) }
 {
     match tree {
         Expr::Decimal { value } => Ok(decimal(*value)),
@@ -63,9 +63,9 @@ pub fn called(
     method: NameId,
     args: &[Expr],
 ) -> Result<Option<je_core::Expr>, Memory>
-    ensures is { IfOk result (λ o. IfSome o (IsCall scope.now receiver method (view_exprs args.now))) }
+    ensures is { IfOk result (λ o. IfSome o (λ node. core_of scope.now (call receiver method (view_exprs args.now)) ≡ Some (view node))) }
     ensures fits { IfOk result (λ o. OnSome o (ExprFits scope.now (call receiver method (view_exprs args.now)))) }
-    ensures none { IfOk result (λ o. IfNone o (ExprFits scope.now (call receiver method (view_exprs args.now)) → ⊥)) }
+    ensures none { IfOk result (λ o. IfNone o (¬ ExprFits scope.now (call receiver method (view_exprs args.now)))) }
 {
     let Some(callee) = scope.callee(receiver, method, args.len()) else {
         return Ok(None);
@@ -83,9 +83,9 @@ fn nodes_of(
     scope: &Scope<'_>,
     trees: &[Expr],
 ) -> Result<Option<Vec<Rc<je_core::Expr>>>, Memory>
-    ensures are { IfOk result (λ o. IfSome o (λ nodes. AreExprs scope.now (view_exprs trees.now) nodes.items)) }
+    ensures are { IfOk result (λ o. IfSome o (λ nodes. cores_of scope.now (view_exprs trees.now) ≡ Some (views nodes.items))) }
     ensures fits { IfOk result (λ o. OnSome o (ArgsFit scope.now (view_exprs trees.now))) }
-    ensures none { IfOk result (λ o. IfNone o (ArgsFit scope.now (view_exprs trees.now) → ⊥)) }
+    ensures none { IfOk result (λ o. IfNone o (¬ ArgsFit scope.now (view_exprs trees.now))) }
 {
     let mut nodes = Vec::new(alloc);
     for tree in trees {
@@ -101,7 +101,7 @@ fn nodes_of(
 fn decimal(value: u32) -> Option<Elaborated>
     ensures is { (scope : Scope) → IfSome result (IsElaborated scope (decimal value)) }
     ensures fits { OnSome result (value ≤ greatest_int) }
-    ensures none { IfNone result (value ≤ greatest_int → ⊥) }
+    ensures none { IfNone result (¬ value ≤ greatest_int) }
 {
     if value > i32::MAX as u32 {
         return None;
@@ -112,7 +112,7 @@ fn decimal(value: u32) -> Option<Elaborated>
 fn named(alloc: Global, scope: &Scope<'_>, name: NameId) -> Result<Option<Elaborated>, Memory>
     ensures is { IfOk result (λ o. IfSome o (IsElaborated scope.now (name_tree name))) }
     ensures fits { IfOk result (λ o. OnSome o (IsIntName scope.now name)) }
-    ensures none { IfOk result (λ o. IfNone o (IsIntName scope.now name → ⊥)) }
+    ensures none { IfOk result (λ o. IfNone o (¬ IsIntName scope.now name)) }
 {
     let Some(place) = scope.int(name) else {
         return Ok(None);
@@ -122,10 +122,10 @@ fn named(alloc: Global, scope: &Scope<'_>, name: NameId) -> Result<Option<Elabor
 
 /// The node of an int's place.
 pub fn place_node(alloc: Global, place: Place) -> Result<je_core::Expr, Memory>
-    ensures { IfOk result (IsPlaceNode place) }
+    ensures { IfOk result (λ node. view node ≡ the_place_node place) }
 {
     match place {
-        Place::Local(local) => Ok(nodes::local(local, nodes::INT)),
+        Place::Local(local) => Ok(nodes::local(nodes::INT, local)),
         Place::OwnField(field) => nodes::own_field(alloc, field),
     }
 }
@@ -135,13 +135,13 @@ fn call_node(
     callee: Callee,
     args: Vec<Rc<je_core::Expr>>,
 ) -> Result<je_core::Expr, Memory>
-    ensures { IfOk result (IsCallNode callee args) }
+    ensures { IfOk result (λ node. view node ≡ the_call_node callee (views args.items)) }
 {
     match callee {
         Callee::Static(method) => Ok(nodes::static_call(method, args)),
         Callee::Own(method) => nodes::instance_call(alloc, nodes::this(), method, args),
         Callee::On { local, method } => {
-            let receiver = nodes::local(local, nodes::OBJECT);
+            let receiver = nodes::local(nodes::OBJECT, local);
             nodes::instance_call(alloc, receiver, method, args)
         }
     }
@@ -171,7 +171,7 @@ fn operation(
     left: je_core::Expr,
     right: je_core::Expr,
 ) -> Result<Elaborated, Memory>
-    ensures { IfOk result (IsOperation op left right) }
+    ensures { IfOk result (IsOperation op (view left) (view right)) }
 {
     Ok(Elaborated::Node(nodes::binary(alloc, op, left, right)?))
 }
@@ -188,7 +188,7 @@ fn folded(op: BinOp, x: i32, y: i32) -> i32
 }
 
 fn node_of(alloc: Global, elaborated: Elaborated) -> je_core::Expr
-    ensures { IsNodeOf elaborated result }
+    ensures { view result ≡ the_node_of elaborated }
 {
     match elaborated {
         Elaborated::Constant(value) => nodes::constant(alloc, value),
@@ -202,9 +202,9 @@ pub fn expression(
     scope: &Scope<'_>,
     tree: &Expr,
 ) -> Result<Option<je_core::Expr>, Memory>
-    ensures is { IfOk result (λ o. IfSome o (IsExpr scope.now (view_expr tree.now))) }
+    ensures is { IfOk result (λ o. IfSome o (λ node. core_of scope.now (view_expr tree.now) ≡ Some (view node))) }
     ensures fits { IfOk result (λ o. OnSome o (ExprFits scope.now (view_expr tree.now))) }
-    ensures none { IfOk result (λ o. IfNone o (ExprFits scope.now (view_expr tree.now) → ⊥)) }
+    ensures none { IfOk result (λ o. IfNone o (¬ ExprFits scope.now (view_expr tree.now))) }
 {
     let Some(elaborated) = elaborate(alloc, scope, tree)? else {
         return Ok(None);

@@ -1,10 +1,10 @@
 // Methods.
 
-ghost use Rattle.std.specs.Prelude.{◌≡◌, ◌+◌, ◌-◌, ◌≤◌, ◌<◌, ◌^◌, map, length, IfOk, IfSome, OnSome, IfNone};
+ghost use Rattle.std.specs.Prelude.{◌≡◌, ◌+◌, ◌-◌, ◌≤◌, ◌<◌, ◌^◌, Some, map, length, IfOk, IfSome, OnSome, IfNone};
+ghost use Rattle.je_core.specs.View.{method_view, stmt_views};
 ghost use Rattle.one_syntax.specs.Trees.{method as method_tree, view_expr, view_statement};
 ghost use Rattle.one_program.specs.Conditions.{MemberFits};
-ghost use Rattle.one_program.specs.Elaboration.{IsMethod, AreLocals, Declares, int_type, numbers_from};
-ghost use Rattle.one_program.specs.Bodies.{IsMethodOfBody};
+ghost use Rattle.one_program.specs.Elaboration.{core_method, method_with, declared, int_type, numbers_from};
 
 use crate::body::{MadeBody, make_body};
 use crate::names::are_distinct;
@@ -27,9 +27,9 @@ pub fn make_method(
     result_tree: &Expr,
 ) -> Result<Option<Method>, Memory>
     requires { length params.now + length statements.now < 2 ^ 31 }
-    ensures is { IfOk result (λ o. IfSome o (IsMethod members.now head.is_static head.name params.now (map view_statement statements.now) (view_expr result_tree.now))) }
+    ensures is { IfOk result (λ o. IfSome o (λ made. core_method members.now head.is_static head.name params.now (map view_statement statements.now) (view_expr result_tree.now) ≡ Some (method_view made))) }
     ensures fits { IfOk result (λ o. OnSome o (MemberFits names.now members.now (method_tree head.is_static head.name params.now (map view_statement statements.now) (view_expr result_tree.now)))) }
-    ensures none { IfOk result (λ o. IfNone o (MemberFits names.now members.now (method_tree head.is_static head.name params.now (map view_statement statements.now) (view_expr result_tree.now)) → ⊥)) }
+    ensures none { IfOk result (λ o. IfNone o (¬ MemberFits names.now members.now (method_tree head.is_static head.name params.now (map view_statement statements.now) (view_expr result_tree.now)))) }
 {
     if is_object_method(names, head.name) || !are_distinct(params) {
         return Ok(None);
@@ -51,11 +51,11 @@ pub fn make_method(
 /// The method of that head and body.
 fn method_of(alloc: Global, head: Head, params: &[NameId], body: MadeBody) -> Result<Method, Memory>
     requires { length body.locals.items < 2 ^ 31 }
-    ensures { IfOk result (IsMethodOfBody head params.now body.locals.items body.parts.items) }
+    ensures { IfOk result (λ made. method_view made ≡ method_with head.is_static head.name params.now body.locals.items (stmt_views body.parts.items)) }
 {
     let locals = locals_of(alloc, &body.locals)?;
-    let declared = numbers(alloc, params.len(), body.locals.len())?;
-    let block = nodes::block(declared, body.parts);
+    let numbers = numbers(alloc, params.len(), body.locals.len())?;
+    let block = nodes::block(numbers, body.parts);
     Ok(Method {
         name: head.name,
         span: nodes::NOWHERE,
@@ -82,7 +82,7 @@ fn int_types(alloc: Global, params: &[NameId]) -> Result<Vec<Ty>, Memory>
 
 /// The declarations of locals.
 fn locals_of(alloc: Global, variables: &[Variable]) -> Result<Vec<Local>, Memory>
-    ensures { IfOk result (λ locals. AreLocals variables.now locals.items) }
+    ensures { IfOk result (λ locals. locals.items ≡ map declared variables.now) }
 {
     let mut locals = Vec::new(alloc);
     for variable in variables {
@@ -92,7 +92,7 @@ fn locals_of(alloc: Global, variables: &[Variable]) -> Result<Vec<Local>, Memory
 }
 
 fn local(variable: Variable) -> Local
-    ensures { Declares variable result }
+    ensures { result ≡ declared variable }
 {
     let ty = match variable.sort {
         Sort::Int => nodes::INT,

@@ -1,11 +1,15 @@
-// Nodes of the core program.
+// Nodes of a One's core program.
 
 ghost use Rattle.std.specs.Prelude.{◌≡◌, IfOk};
-ghost use Rattle.one_program.specs.Elaboration.{IsLocal, IsThis, IsOwnField, IsConstant, IsDo, IsAssign, IsNew, IsBlock};
-ghost use Rattle.one_program.specs.Nodes.{IsBinary, IsStaticCall, IsInstanceCall, IsReturn};
+ghost use Rattle.je_core.specs.View.{view, views, stmt_view, stmt_views};
+ghost use Rattle.one_program.specs.Elaboration.{constant as the_constant, this as the_this, local as the_local, own_field as the_own_field, operation, static_call as the_static_call, instance_call as the_instance_call, new_object as the_new_object, stores, does, returns, block as the_block};
 
 use crate::scope::Members;
-use je_core::{Base, BinOp, ClassId, Expr, Form, Memory, Span, Stmt, StmtForm, Ty, Value};
+use je_core::{
+    Base, BinOp, ClassId, Expr, Mark, Memory, Span, Stmt, Ty, Value, make_assign, make_binary,
+    make_block, make_call_virtual, make_const, make_do, make_field, make_local, make_new,
+    make_return, make_static_call, make_this,
+};
 use std::alloc::Global;
 use std::rc::Rc;
 
@@ -37,12 +41,10 @@ pub const NOWHERE: Span = Span {
     end: 0,
 };
 
-fn expr(form: Form, ty: Ty) -> Expr
-    ensures of_form { result.form ≡ form }
-    ensures of_type { result.ty ≡ ty }
+fn mark(ty: Ty) -> Mark
+    ensures { result ≡ record { ty = ty; span = record { file = 0; start = 0; end = 0 }; at = record { file = 0; start = 0; end = 0 } } }
 {
-    Expr {
-        form,
+    Mark {
         ty,
         span: NOWHERE,
         at: NOWHERE,
@@ -51,140 +53,91 @@ fn expr(form: Form, ty: Ty) -> Expr
 
 /// The constant of that value.
 pub fn constant(alloc: Global, value: i32) -> Expr
-    ensures { IsConstant value result }
+    ensures { view result ≡ the_constant value }
 {
-    let form = Form::Const {
-        value: Value::Int(value),
-        uses: Vec::new(alloc),
-    };
-    expr(form, INT)
+    make_const(mark(INT), Value::Int(value), Vec::new(alloc))
 }
 
 /// The local of that number.
-pub fn local(local: u32, ty: Ty) -> Expr
-    ensures { IsLocal local ty result }
+pub fn local(ty: Ty, number: u32) -> Expr
+    ensures { view result ≡ the_local ty number }
 {
-    expr(Form::Local { local }, ty)
+    make_local(mark(ty), number)
 }
 
 /// The object that the method was called on.
 pub fn this() -> Expr
-    ensures { IsThis result }
+    ensures { view result ≡ the_this }
 {
-    expr(Form::This, OBJECT)
+    make_this(mark(OBJECT))
 }
 
 /// The field of that number of `this`.
-pub fn own_field(alloc: Global, field: u32) -> Result<Expr, Memory>
-    ensures { IfOk result (λ node. IsOwnField field node) }
+pub fn own_field(alloc: Global, number: u32) -> Result<Expr, Memory>
+    ensures { IfOk result (λ node. view node ≡ the_own_field number) }
 {
-    let form = Form::Field {
-        object: Rc::new(alloc, this())?,
-        class: ONE_CLASS,
-        field,
-    };
-    Ok(expr(form, INT))
+    make_field(alloc, mark(INT), this(), ONE_CLASS, number)
 }
 
 /// An operator on two operands.
 pub fn binary(alloc: Global, op: BinOp, left: Expr, right: Expr) -> Result<Expr, Memory>
-    ensures { IfOk result (λ node. IsBinary op left right node) }
+    ensures { IfOk result (λ node. view node ≡ operation op (view left) (view right)) }
 {
-    let form = Form::Binary {
-        op,
-        left: Rc::new(alloc, left)?,
-        right: Rc::new(alloc, right)?,
-    };
-    Ok(expr(form, INT))
+    make_binary(alloc, mark(INT), op, left, right)
 }
 
 /// A call of the static method of that number.
-pub fn static_call(method: u32, args: Vec<Rc<Expr>>) -> Expr
-    ensures { IsStaticCall method args result }
+pub fn static_call(number: u32, args: Vec<Rc<Expr>>) -> Expr
+    ensures { view result ≡ the_static_call number (views args.items) }
 {
-    let form = Form::CallExact {
-        receiver: None,
-        class: ONE_CLASS,
-        method,
-        args,
-    };
-    expr(form, INT)
+    make_static_call(mark(INT), ONE_CLASS, number, args)
 }
 
 /// A call of the instance method of that number.
 pub fn instance_call(
     alloc: Global,
     receiver: Expr,
-    method: u32,
+    number: u32,
     args: Vec<Rc<Expr>>,
 ) -> Result<Expr, Memory>
-    ensures { IfOk result (λ node. IsInstanceCall receiver method args node) }
+    ensures { IfOk result (λ node. view node ≡ the_instance_call (view receiver) number (views args.items)) }
 {
-    let form = Form::CallVirtual {
-        receiver: Rc::new(alloc, receiver)?,
-        class: ONE_CLASS,
-        method,
-        args,
-    };
-    Ok(expr(form, INT))
-}
-
-/// An assignment of a type to a place.
-pub fn assign(alloc: Global, place: Expr, value: Expr, ty: Ty) -> Result<Expr, Memory>
-    ensures { IfOk result (λ node. IsAssign node place value ty) }
-{
-    let form = Form::Assign {
-        place: Rc::new(alloc, place)?,
-        value: Rc::new(alloc, value)?,
-    };
-    Ok(expr(form, ty))
+    make_call_virtual(alloc, mark(INT), receiver, ONE_CLASS, number, args)
 }
 
 /// A new object of the class, made by its constructor, which stands behind its methods.
 pub fn new_object(alloc: Global, members: &Members) -> Expr
-    ensures { IsNew members.now result }
+    ensures { view result ≡ the_new_object members.now }
 {
-    let form = Form::New {
-        class: ONE_CLASS,
-        method: members.methods.len() as u32,
-        args: Vec::new(alloc),
-    };
-    expr(form, OBJECT)
-}
-
-fn stmt(form: StmtForm) -> Stmt
-    ensures { result.form ≡ form }
-{
-    Stmt {
-        form,
-        span: NOWHERE,
-        at: NOWHERE,
-    }
+    let constructor = members.methods.len() as u32;
+    make_new(mark(OBJECT), ONE_CLASS, constructor, Vec::new(alloc))
 }
 
 /// An expression whose value is dropped.
 pub fn perform(alloc: Global, value: Expr) -> Result<Stmt, Memory>
-    ensures { IfOk result (λ node. IsDo node value) }
+    ensures { IfOk result (λ node. stmt_view node ≡ does (view value)) }
 {
-    let form = StmtForm::Do {
-        expr: Rc::new(alloc, value)?,
-    };
-    Ok(stmt(form))
+    make_do(alloc, NOWHERE, NOWHERE, value)
+}
+
+/// An assignment of a type to a place, whose value is dropped.
+pub fn store(alloc: Global, ty: Ty, place: Expr, value: Expr) -> Result<Stmt, Memory>
+    ensures { IfOk result (λ node. stmt_view node ≡ stores ty (view place) (view value)) }
+{
+    let assigned = make_assign(alloc, mark(ty), place, value)?;
+    perform(alloc, assigned)
 }
 
 /// `return` of a value.
 pub fn give_back(alloc: Global, value: Expr) -> Result<Stmt, Memory>
-    ensures { IfOk result (λ node. IsReturn value node) }
+    ensures { IfOk result (λ node. stmt_view node ≡ returns (view value)) }
 {
-    let form = StmtForm::Return {
-        value: Some(Rc::new(alloc, value)?),
-    };
-    Ok(stmt(form))
+    make_return(alloc, NOWHERE, NOWHERE, value)
 }
 
 /// A block that declares these locals.
 pub fn block(locals: Vec<u32>, parts: Vec<Rc<Stmt>>) -> Stmt
-    ensures { IsBlock result locals.items parts.items }
+    ensures { stmt_view result ≡ the_block locals.items (stmt_views parts.items) }
 {
-    stmt(StmtForm::Block { locals, parts })
+    make_block(NOWHERE, NOWHERE, locals, parts)
 }

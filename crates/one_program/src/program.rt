@@ -1,11 +1,12 @@
 // The whole program.
 
-ghost use Rattle.std.specs.Prelude.{◌≡◌, ◌<◌, ◌^◌, codes, length, IfOk, IfSome, OnSome, OnErr, IfNone};
+ghost use Rattle.std.specs.Prelude.{◌≡◌, ◌<◌, ◌^◌, codes, length, Some, IfOk, IfSome, OnSome, OnErr, IfNone};
 ghost use Rattle.je_base.specs.Names.{interned};
+ghost use Rattle.je_core.specs.View.{program_view};
 ghost use Rattle.one_syntax.specs.Trees.{view_one};
 ghost use Rattle.one_program.specs.Scope.{members_of};
 ghost use Rattle.one_program.specs.Conditions.{Fits, IsMain};
-ghost use Rattle.one_program.specs.Elaboration.{Elaborates};
+ghost use Rattle.one_program.specs.Elaboration.{program_of};
 ghost use Rattle.one_program.specs.Sizes.{declarations};
 
 use crate::class;
@@ -28,9 +29,9 @@ pub fn build(alloc: Global, one: &One, names: &mut Names) -> Result<Option<Built
     requires few_declarations { declarations (view_one one.now).members < 2 ^ 31 }
 
     ensures fits { IfOk result (λ o. OnSome o (Fits names.old (view_one one.now))) }
-    ensures elaborates { IfOk result (λ o. IfSome o (λ built. Elaborates names.new (view_one one.now) built.program)) }
+    ensures elaborates { IfOk result (λ o. IfSome o (λ built. program_of names.new (view_one one.now) ≡ Some (program_view built.program))) }
     ensures main { IfOk result (λ o. IfSome o (λ built. IsMain names.old (members_of (view_one one.now)) built.main)) }
-    ensures unfit { IfOk result (λ o. IfNone o (Fits names.old (view_one one.now) → ⊥)) }
+    ensures unfit { IfOk result (λ o. IfNone o (¬ Fits names.old (view_one one.now))) }
 
     ensures names_some { IfOk result (λ o. OnSome o (names.new ≡ interned names.old (codes "new"))) }
     ensures names_none { IfOk result (λ o. IfNone o (names.new ≡ names.old)) }

@@ -3,7 +3,7 @@
 ghost use Rattle.std.specs.Prelude.{◌≡◌, ℕ, length, Bool, ◌↔◌, IsTrue, IfSome, OnSome, IfNone};
 ghost use Rattle.one_program.specs.Scope.{local_of, field_of, inside};
 ghost use Rattle.one_program.specs.Conditions.{IsNot, IsNewName, IsIntName, IsObjectName, IsMethodOf, NamesMethod};
-ghost use Rattle.one_program.specs.Seen.{IsPlace, IsObject, IsCallee};
+ghost use Rattle.one_program.specs.way.Seen.{IsPlace, IsObject, IsCallee};
 
 use crate::names::{Named, is_not, is_same, place};
 use je_core::NameId;
@@ -83,7 +83,7 @@ pub struct Scope<'a> {
 impl<'a> Model for Scope<'a> {
     ghost use Rattle.std.specs.Prelude.{◌<◌, ◌^◌, length};
     ghost use Rattle.one_program.specs.Scope.{Scope as ScopeOf};
-    ghost use Rattle.one_program.specs.Seen.{barred_in};
+    ghost use Rattle.one_program.specs.way.Seen.{barred_in};
 
     ghost Value = { ScopeOf };
 
@@ -221,7 +221,7 @@ impl Scope<'_> {
     pub fn int(&self, name: NameId) -> Option<Place>
         ensures place { IfSome result (IsPlace self.now name) }
         ensures fits { OnSome result (IsIntName self.now name) }
-        ensures none { IfNone result (IsIntName self.now name → ⊥) }
+        ensures none { IfNone result (¬ IsIntName self.now name) }
     {
         if !self.allows(name) {
             return None;
@@ -240,7 +240,7 @@ impl Scope<'_> {
     /// holds one.
     fn object(&self, name: NameId) -> Option<u32>
         ensures found { IfSome result (λ number. IsObject self.now name number) }
-        ensures none { IfNone result (IsObjectName self.now name → ⊥) }
+        ensures none { IfNone result (¬ IsObjectName self.now name) }
     {
         let number = self.local(name)?;
         let local = self.locals.get(number as usize)?;
@@ -254,7 +254,7 @@ impl Scope<'_> {
     /// so many parameters.
     fn method(&self, name: NameId, arity: usize) -> Option<(u32, bool)>
         ensures found { IfSome result (λ m. IsMethodOf self.now name m.0 m.1 arity) }
-        ensures none { IfNone result ((number : ℕ) (is_static : Bool) → IsMethodOf self.now name number is_static arity → ⊥) }
+        ensures none { IfNone result ((number : ℕ) (is_static : Bool) → ¬ IsMethodOf self.now name number is_static arity) }
     {
         let members = self.members;
         let number = place(name, &members.methods)?;
@@ -269,7 +269,7 @@ impl Scope<'_> {
     pub fn callee(&self, receiver: Option<NameId>, name: NameId, arity: usize) -> Option<Callee>
         ensures found { IfSome result (IsCallee self.now receiver name arity) }
         ensures fits { OnSome result (NamesMethod self.now receiver name arity) }
-        ensures none { IfNone result (NamesMethod self.now receiver name arity → ⊥) }
+        ensures none { IfNone result (¬ NamesMethod self.now receiver name arity) }
     {
         match receiver {
             None => self.simple_callee(name, arity),
@@ -280,7 +280,7 @@ impl Scope<'_> {
     fn simple_callee(&self, name: NameId, arity: usize) -> Option<Callee>
         ensures found { IfSome result (IsCallee self.now None name arity) }
         ensures fits { OnSome result (NamesMethod self.now None name arity) }
-        ensures none { IfNone result (NamesMethod self.now None name arity → ⊥) }
+        ensures none { IfNone result (¬ NamesMethod self.now None name arity) }
     {
         let (method, is_static) = self.method(name, arity)?;
         if is_static {
@@ -295,7 +295,7 @@ impl Scope<'_> {
     fn callee_on(&self, receiver: NameId, name: NameId, arity: usize) -> Option<Callee>
         ensures found { IfSome result (IsCallee self.now (Some receiver) name arity) }
         ensures fits { OnSome result (NamesMethod self.now (Some receiver) name arity) }
-        ensures none { IfNone result (NamesMethod self.now (Some receiver) name arity → ⊥) }
+        ensures none { IfNone result (¬ NamesMethod self.now (Some receiver) name arity) }
     {
         let local = self.object(receiver)?;
         let (method, is_static) = self.method(name, arity)?;

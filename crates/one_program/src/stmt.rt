@@ -1,16 +1,17 @@
 // Statements.
 
-ghost use Rattle.std.specs.Prelude.{◌≡◌, IfOk, IfSome, OnSome, IfNone};
+ghost use Rattle.std.specs.Prelude.{◌≡◌, Some, IfOk, IfSome, OnSome, IfNone};
+ghost use Rattle.je_core.specs.View.{stmt_view};
 ghost use Rattle.one_syntax.specs.Trees.{view_expr, view_exprs, view_statement, declare as declare_tree, make as make_tree, assign as assign_tree, perform as perform_tree};
 ghost use Rattle.one_program.specs.Scope.{Scope, after};
 ghost use Rattle.one_program.specs.Conditions.{StatementFits};
-ghost use Rattle.one_program.specs.Elaboration.{IsStatement, IsNew};
-ghost use Rattle.one_program.specs.Elaborated.{IsStored, with_declared};
+ghost use Rattle.one_program.specs.Elaboration.{statement_of};
+ghost use Rattle.one_program.specs.way.Elaborated.{with_declared};
 
 use crate::expr::{called, expression, place_node};
 use crate::nodes;
 use crate::scope::{BodyScope, Sort, Variable};
-use je_core::{Memory, NameId, Stmt, Ty};
+use je_core::{Memory, NameId, Stmt};
 use one_syntax::{Expr, Statement};
 use std::alloc::Global;
 
@@ -20,9 +21,9 @@ pub fn statement(
     scope: &BodyScope<'_>,
     tree: &Statement,
 ) -> Result<Option<Stmt>, Memory>
-    ensures is { IfOk result (λ o. IfSome o (IsStatement scope.now (view_statement tree.now))) }
+    ensures is { IfOk result (λ o. IfSome o (λ node. statement_of scope.now (view_statement tree.now) ≡ Some (stmt_view node))) }
     ensures fits { IfOk result (λ o. OnSome o (StatementFits scope.now (view_statement tree.now))) }
-    ensures none { IfOk result (λ o. IfNone o (StatementFits scope.now (view_statement tree.now) → ⊥)) }
+    ensures none { IfOk result (λ o. IfNone o (¬ StatementFits scope.now (view_statement tree.now))) }
 {
     match tree {
         Statement::Declare { name, value } => declare(alloc, scope, *name, value),
@@ -59,9 +60,9 @@ fn declare(
     name: NameId,
     value: &Expr,
 ) -> Result<Option<Stmt>, Memory>
-    ensures is { IfOk result (λ o. IfSome o (IsStatement scope.now (declare_tree name (view_expr value.now)))) }
+    ensures is { IfOk result (λ o. IfSome o (λ node. statement_of scope.now (declare_tree name (view_expr value.now)) ≡ Some (stmt_view node))) }
     ensures fits { IfOk result (λ o. OnSome o (StatementFits scope.now (declare_tree name (view_expr value.now)))) }
-    ensures none { IfOk result (λ o. IfNone o (StatementFits scope.now (declare_tree name (view_expr value.now)) → ⊥)) }
+    ensures none { IfOk result (λ o. IfNone o (¬ StatementFits scope.now (declare_tree name (view_expr value.now)))) }
 {
     if !scope.scope().is_new(name) {
         return Ok(None);
@@ -69,8 +70,8 @@ fn declare(
     let Some(value) = expression(alloc, &scope.inside(name), value)? else {
         return Ok(None);
     };
-    let local = nodes::local(scope.next(), nodes::INT);
-    Ok(Some(stored(alloc, local, value, nodes::INT)?))
+    let local = nodes::local(nodes::INT, scope.next());
+    Ok(Some(nodes::store(alloc, nodes::INT, local, value)?))
 }
 
 fn make(
@@ -80,16 +81,16 @@ fn make(
     name: NameId,
     made: NameId,
 ) -> Result<Option<Stmt>, Memory>
-    ensures is { IfOk result (λ o. IfSome o (IsStatement scope.now (make_tree class name made))) }
+    ensures is { IfOk result (λ o. IfSome o (λ node. statement_of scope.now (make_tree class name made) ≡ Some (stmt_view node))) }
     ensures fits { IfOk result (λ o. OnSome o (StatementFits scope.now (make_tree class name made))) }
-    ensures none { IfOk result (λ o. IfNone o (StatementFits scope.now (make_tree class name made) → ⊥)) }
+    ensures none { IfOk result (λ o. IfNone o (¬ StatementFits scope.now (make_tree class name made))) }
 {
     if !scope.scope().is_new(name) || !scope.is_class(class) || !scope.is_class(made) {
         return Ok(None);
     }
-    let local = nodes::local(scope.next(), nodes::OBJECT);
+    let local = nodes::local(nodes::OBJECT, scope.next());
     let value = nodes::new_object(alloc, scope.members);
-    Ok(Some(stored(alloc, local, value, nodes::OBJECT)?))
+    Ok(Some(nodes::store(alloc, nodes::OBJECT, local, value)?))
 }
 
 fn assign(
@@ -98,9 +99,9 @@ fn assign(
     name: NameId,
     value: &Expr,
 ) -> Result<Option<Stmt>, Memory>
-    ensures is { IfOk result (λ o. IfSome o (IsStatement scope.now (assign_tree name (view_expr value.now)))) }
+    ensures is { IfOk result (λ o. IfSome o (λ node. statement_of scope.now (assign_tree name (view_expr value.now)) ≡ Some (stmt_view node))) }
     ensures fits { IfOk result (λ o. OnSome o (StatementFits scope.now (assign_tree name (view_expr value.now)))) }
-    ensures none { IfOk result (λ o. IfNone o (StatementFits scope.now (assign_tree name (view_expr value.now)) → ⊥)) }
+    ensures none { IfOk result (λ o. IfNone o (¬ StatementFits scope.now (assign_tree name (view_expr value.now)))) }
 {
     let scope = scope.scope();
     let Some(place) = scope.int(name) else {
@@ -110,7 +111,7 @@ fn assign(
         return Ok(None);
     };
     let place = place_node(alloc, place)?;
-    Ok(Some(stored(alloc, place, value, nodes::INT)?))
+    Ok(Some(nodes::store(alloc, nodes::INT, place, value)?))
 }
 
 fn perform(
@@ -120,19 +121,12 @@ fn perform(
     method: NameId,
     args: &[Expr],
 ) -> Result<Option<Stmt>, Memory>
-    ensures is { IfOk result (λ o. IfSome o (IsStatement scope.now (perform_tree receiver method (view_exprs args.now)))) }
+    ensures is { IfOk result (λ o. IfSome o (λ node. statement_of scope.now (perform_tree receiver method (view_exprs args.now)) ≡ Some (stmt_view node))) }
     ensures fits { IfOk result (λ o. OnSome o (StatementFits scope.now (perform_tree receiver method (view_exprs args.now)))) }
-    ensures none { IfOk result (λ o. IfNone o (StatementFits scope.now (perform_tree receiver method (view_exprs args.now)) → ⊥)) }
+    ensures none { IfOk result (λ o. IfNone o (¬ StatementFits scope.now (perform_tree receiver method (view_exprs args.now)))) }
 {
     let Some(call) = called(alloc, &scope.scope(), receiver, method, args)? else {
         return Ok(None);
     };
     Ok(Some(nodes::perform(alloc, call)?))
-}
-
-fn stored(alloc: Global, place: je_core::Expr, value: je_core::Expr, ty: Ty) -> Result<Stmt, Memory>
-    ensures { IfOk result (IsStored place value ty) }
-{
-    let assigned = nodes::assign(alloc, place, value, ty)?;
-    nodes::perform(alloc, assigned)
 }

@@ -1,5 +1,5 @@
 use Rattle.std.proofs.Common.{◌≡◌, ◌++◌, drop}
-use Rattle.one_program.specs.Bodies.{parameters}
+use Rattle.one_program.specs.way.Bodies.{parameters}
 use Rattle.one_program.proofs.body.parameters.Given as goal
 
 abbrev pub invariant-loop-name : goal.invariant-loop-name

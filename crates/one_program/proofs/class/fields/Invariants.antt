@@ -1,7 +1,6 @@
-use Rattle.std.proofs.Common.{List, ◌++◌, drop}
-use Rattle.je_core.specs.declared.program.Field.{Field}
-use Rattle.one_program.specs.Elaboration.{AreFields}
+use Rattle.std.proofs.Common.{◌≡◌, ◌++◌, drop, map}
+use Rattle.one_program.specs.Elaboration.{int_field}
 use Rattle.one_program.proofs.class.fields.Given as goal
 
 abbrev pub invariant-loop-name : goal.invariant-loop-name
-invariant-loop-name l = (further : List Field) → AreFields (drop l.name-index l.names) further → AreFields l.names (l.fields.items ++ further)
+invariant-loop-name l = l.fields.items ++ map int_field (drop l.name-index l.names) ≡ map int_field l.names

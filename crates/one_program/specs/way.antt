@@ -1,0 +1,4 @@
+pub mod Seen
+pub mod Elaborated
+pub mod Bodies
+pub mod Built
