@@ -7,8 +7,7 @@ use Rattle.std.proofs.lemmas.Option.{slice_get-get_or}
 use Rattle.je_core.specs.Defaults.{default_of}
 use Rattle.je_core.specs.declared.expr.BinOp.{BinOp}
 use Rattle.je_core.specs.declared.program.Local.{Local}
-use Rattle.je_core.specs.declared.program.Method.{Method}
-use Rattle.je_core.specs.declared.program.Program.{Program}
+use Rattle.je_core.specs.Core.{CoreMethod, CoreProgram}
 use Rattle.je_base.specs.declared.span.NameId.{NameId}
 use Rattle.je_core.specs.declared.value.Value.{Value}
 use Rattle.je_core.specs.declared.value.Value.TheVariants.{Int, Null, Ref}
@@ -71,13 +70,13 @@ module _ {fields : ℕ} {t : ℕ} {c : Context} where
       Keeps fields t c c (Holds int) (binary op a b)
   keeps-binary op (an_int {x = x}) (an_int {x = y}) = safe-binary op x y an_int
 
-  pub keeps-read_field : {value : Value} (program : Program) (number : ℕ) →
+  pub keeps-read_field : {value : Value} (program : CoreProgram) (number : ℕ) →
       field_slot program one_class number ≡ Some number → number < fields → Holds object t value →
       Keeps fields t c c (Holds int) (read_field program one_class number value)
   keeps-read_field program number e h (an_object {o = o} b) =
       safe-read_field program one_class number o e λ objects q. slot_at_object o.0 number b h q
 
-  pub keeps-write_field : {value stored : Value} (program : Program) (number : ℕ) →
+  pub keeps-write_field : {value stored : Value} (program : CoreProgram) (number : ℕ) →
       field_slot program one_class number ≡ Some number → number < fields → Holds object t value → Holds int t stored →
       Keeps fields t c c (Holds int) (write_field program one_class number value stored)
   keeps-write_field program number e h (an_object {o = o} b) (an_int {x = x}) =
@@ -96,7 +95,7 @@ module _ {fields : ℕ} {t : ℕ} {c : Context} where
       ))
       r
 
-  pub keeps-make : {slots : List Value} (program : Program) → fresh_slots program one_class ≡ Some slots →
+  pub keeps-make : {slots : List Value} (program : CoreProgram) → fresh_slots program one_class ≡ Some slots →
       Ints fields slots →
       Keeps fields t c c (λ u o. Holds object u (Ref o)) (make program one_class)
   keeps-make program e r = safe-make program one_class e λ u l objects q.
@@ -117,20 +116,20 @@ locals-begin (x ∷ params) (value ∷ given) rest q =
     by : {count : ℕ} {v : Value} → IsInt v → Holds int count v
     by is_int = an_int
 
-pub own-begins : {count : ℕ} {is_static : Bool} (method : Method) (this : Value) (params : List NameId) (given : List Value) →
-    length params ≤ length method.locals.items → Ints (length params) given →
+pub own-begins : {count : ℕ} {is_static : Bool} (method : CoreMethod) (this : Value) (params : List NameId) (given : List Value) →
+    length params ≤ length method.locals → Ints (length params) given →
     (is_static ≡ false → Holds object count this) →
     OwnFits count (begins is_static params method) (record { this = this; locals = locals_for method given })
 own-begins method this params given room q r = record {
   this = r;
   locals = locals-begin params given _ q;
   room =
-      let defaults = map (λ (local : Local). default_of local.ty) (drop (length given) method.locals.items) in
+      let defaults = map (λ (local : Local). default_of local.ty) (drop (length given) method.locals) in
       let e : length given ≡ length params = q.length_is in
       omega (
         arith,
         length-append given defaults,
-        length-drop (length given) method.locals.items,
-        length-map (drop (length given) method.locals.items) (λ (local : Local). default_of local.ty),
+        length-drop (length given) method.locals,
+        length-map (drop (length given) method.locals) (λ (local : Local). default_of local.ty),
       );
 }

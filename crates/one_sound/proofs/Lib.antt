@@ -1,3 +1,4 @@
+pub mod Gives
 pub mod Safe
 pub mod Values
 pub mod Typing

@@ -45,17 +45,17 @@ IsNot-cases true behind e p = absurd (cc)
 IsNot-cases false None e p = p refl refl
 IsNot-cases false (Some n) e p = absurd (cc)
 
-IsNot-behind : (x y : NameId) (names : List NameId) → IsNot x (y ∷ names) → IsNot x names
+pub IsNot-behind : (x y : NameId) (names : List NameId) → IsNot x (y ∷ names) → IsNot x names
 IsNot-behind x y names e = IsNot-cases (same_name x y) (place_of x names) e λ h k. k
 
-IsNot-itself : (x : NameId) (names : List NameId) → IsNot x (x ∷ names) → ⊥
+pub IsNot-itself : (x : NameId) (names : List NameId) → ¬ IsNot x (x ∷ names)
 IsNot-itself x names e = IsNot-cases (same_name x x) (place_of x names) e λ h k.
     absurd (let same : same_name x x ≡ true = eq-eqb x.0 x.0 refl in cc)
 
 -- each of these names is barred
 pub data AreBarred (barred : List NameId) : List NameId → Type 0 where
   none : AreBarred barred []
-  more : {x : NameId} {names : List NameId} → (IsNot x barred → ⊥) → AreBarred barred names →
+  more : {x : NameId} {names : List NameId} → (¬ IsNot x barred) → AreBarred barred names →
       AreBarred barred (x ∷ names)
 
 AreBarred-more : (y : NameId) {barred names : List NameId} → AreBarred barred names → AreBarred (y ∷ barred) names
@@ -72,7 +72,7 @@ pub data ObjectsBarred (barred : List NameId) : List Variable → Type 0 where
   none : ObjectsBarred barred []
   an_int : {x : NameId} {variables : List Variable} → ObjectsBarred barred variables →
       ObjectsBarred barred (record { name = x; sort = int } ∷ variables)
-  an_object : {x : NameId} {variables : List Variable} → (IsNot x barred → ⊥) → ObjectsBarred barred variables →
+  an_object : {x : NameId} {variables : List Variable} → (¬ IsNot x barred) → ObjectsBarred barred variables →
       ObjectsBarred barred (record { name = x; sort = object } ∷ variables)
 
 pub ObjectsBarred-more : (y : NameId) {barred : List NameId} {variables : List Variable} →
@@ -92,7 +92,7 @@ ObjectsBarred-int x ObjectsBarred.none = ObjectsBarred.an_int ObjectsBarred.none
 ObjectsBarred-int x (ObjectsBarred.an_int ps) = ObjectsBarred.an_int (ObjectsBarred-int x ps)
 ObjectsBarred-int x (ObjectsBarred.an_object p ps) = ObjectsBarred.an_object p (ObjectsBarred-int x ps)
 
-pub ObjectsBarred-object : {barred : List NameId} {variables : List Variable} (x : NameId) → (IsNot x barred → ⊥) →
+pub ObjectsBarred-object : {barred : List NameId} {variables : List Variable} (x : NameId) → (¬ IsNot x barred) →
     ObjectsBarred barred variables →
     ObjectsBarred barred (variables ++ record { name = x; sort = object } ∷ [])
 ObjectsBarred-object x q ObjectsBarred.none = ObjectsBarred.an_object q ObjectsBarred.none
@@ -102,7 +102,7 @@ ObjectsBarred-object x q (ObjectsBarred.an_object p ps) = ObjectsBarred.an_objec
 -- a name that isn't barred is that of no local that holds an object
 is_barred : {barred : List NameId} {variables : List Variable} (x : NameId) (number : ℕ) →
     ObjectsBarred barred variables → slice_get variables number ≡ Some (record { name = x; sort = object }) →
-    IsNot x barred → ⊥
+    ¬ IsNot x barred
 is_barred x number ObjectsBarred.none e n = cc
 is_barred x zero (ObjectsBarred.an_int ps) e n = let sorts : int ≡ object = ap (λ (v : Variable). v.sort) (same_Some _ _ e) in cc
 is_barred x zero (ObjectsBarred.an_object p ps) e n =

@@ -1,21 +1,21 @@
 -- A call that fits of a method of a One replies, and so does that of its main.
 use Rattle.std.proofs.Common.{◌≡◌, ℕ, List, [], length, refl}
 use Rattle.std.specs.Prelude.{◌≢◌, ℤ, Bool, true, false, Some, slice_get}
-use Rattle.je_core.specs.declared.object.Obj.{Obj}
 use Rattle.std.proofs.lemmas.List.Elements.{All-nil}
-use Rattle.je_core.specs.declared.program.Program.{Program}
+use Rattle.je_core.specs.Core.{CoreProgram}
 use Rattle.je_core.specs.declared.value.ObjId.{ObjId}
 use Rattle.je_core.specs.declared.value.Value.{Value}
 use Rattle.je_core.specs.declared.value.Value.TheVariants.{Int, Null}
-use Rattle.je_java.specs.Steps.{State, Answer, Done, Thrown, Wrong}
+use Rattle.je_java.specs.World.{World}
+use Rattle.je_java.specs.Steps.{State, Outside, Answer, Done, Thrown, Wrong}
 use Rattle.je_java.specs.Meaning.{java, call, call_method, ends, state_at}
 use Rattle.one_syntax.specs.Trees.{OneTree}
 use Rattle.one_program.specs.Conditions.{Fits, IsMain}
-use Rattle.one_program.specs.Elaboration.{Elaborates, one_class}
+use Rattle.one_program.specs.Elaboration.{one_class, program_of}
 use Rattle.one_program.specs.declared.scope.Sort.TheVariants.{Int as int, Object as object}
 use Rattle.one_program.specs.declared.scope.Head.{Head}
 use Rattle.one_program.specs.Scope.{Members, members_of}
-use Rattle.one_sound.specs.Fitting.{IsReceiver, of_static, of_instance, CallFits}
+use Rattle.one_sound.specs.Fitting.{new_world, no_outside, IsReceiver, of_static, of_instance, CallFits}
 use Rattle.one_sound.specs.Replies.{Replies, an_int, units_spent}
 use Rattle.one_sound.proofs.Kept.{Keeps}
 use Rattle.one_sound.proofs.Program.{program-typed}
@@ -28,7 +28,7 @@ use Rattle.one_sound.proofs.Values.{IsInt, Ints, IsOwnObject, Holds, an_object, 
 abbrev outside : Context
 outside = record { is_static = true; locals = []; room = 0 }
 
-call-keeps : {members : Members} {program : Program} {count : ℕ} {head : Head} (number : ℕ) (receiver : Value) (given : List Value) → ProgramTyped members program →
+call-keeps : {members : Members} {program : CoreProgram} {count : ℕ} {head : Head} (number : ℕ) (receiver : Value) (given : List Value) → ProgramTyped members program →
     slice_get members.methods number ≡ Some head → IsReceiver count head.is_static receiver → Ints head.arity given →
     Keeps (length members.fields) count outside outside (Holds int) (call_method program (java program) one_class number receiver given)
 call-keeps number receiver given p e r q =
@@ -42,23 +42,23 @@ call-keeps number receiver given p e r q =
 done : {count : ℕ} {value : Value} (s : State) → Holds int count value → Replies (Done value s)
 done s Holds.an_int = an_int
 
-pub call_replies : (names all_names : List (List ℕ)) (one : OneTree) (program : Program) (number units : ℕ) (receiver : Value) (given : List Value) (objects : List Obj) →
-    Fits names one → Elaborates all_names one program → CallFits (members_of one) number receiver given objects →
-    Replies (call program units one_class number receiver given objects)
-call_replies names all_names one program number units receiver given objects fits q c =
-    (call-keeps number receiver given (program-typed fits q) c.is_method c.is_receiver c.are_ints).run Done ends
+pub call_replies : (names all_names : List (List ℕ)) (one : OneTree) (program : CoreProgram) (number units : ℕ) (receiver : Value) (given : List Value) (world : World) (outside : Outside) →
+    Fits names one → program_of all_names one ≡ Some program → CallFits (members_of one) number receiver given world.objects →
+    Replies (call program units one_class number receiver given world outside)
+call_replies names all_names one program number units receiver given world outside fits q c =
+    (call-keeps number receiver given (program-typed names all_names one fits q) c.is_method c.is_receiver c.are_ints).run Done ends
     (record { from = λ u l value h s fine. done s h })
     (record { leave = λ u l value h s fine. done s h; throw = λ u l exception h s fine. absurd h })
-    (state_at units objects)
+    (state_at units world outside)
     (record {
       objects = c.are_own;
       own = record { this = λ h. absurd (cc); locals = no_more; room = refl };
     })
 
-pub main_replies : (names all_names : List (List ℕ)) (one : OneTree) (program : Program) (main units : ℕ) → Fits names one →
-    Elaborates all_names one program → IsMain names (members_of one) main →
-    Replies (call program units one_class main Null [] [])
-main_replies names all_names one program main units fits q is_main = call_replies names all_names one program main units Null [] [] fits q (record {
+pub main_replies : (names all_names : List (List ℕ)) (one : OneTree) (program : CoreProgram) (main units : ℕ) → Fits names one →
+    program_of all_names one ≡ Some program → IsMain names (members_of one) main →
+    Replies (call program units one_class main Null [] new_world no_outside)
+main_replies names all_names one program main units fits q is_main = call_replies names all_names one program main units Null [] new_world no_outside fits q (record {
   head = record { name = is_main.name; is_static = true; arity = 0 };
   is_method = is_main.head;
   is_receiver = of_static;
@@ -78,7 +78,7 @@ pub replies-not_wrong : (answer : Answer) → Replies answer → answer ≢ Wron
 replies-not_wrong answer an_int e = cc
 replies-not_wrong answer units_spent e = cc
 
-pub main_not_wrong : (names all_names : List (List ℕ)) (one : OneTree) (program : Program) (main units : ℕ) → Fits names one →
-    Elaborates all_names one program → IsMain names (members_of one) main →
-    call program units one_class main Null [] [] ≢ Wrong
+pub main_not_wrong : (names all_names : List (List ℕ)) (one : OneTree) (program : CoreProgram) (main units : ℕ) → Fits names one →
+    program_of all_names one ≡ Some program → IsMain names (members_of one) main →
+    call program units one_class main Null [] new_world no_outside ≢ Wrong
 main_not_wrong names all_names one program main units fits q is_main = replies-not_wrong _ (main_replies names all_names one program main units fits q is_main)

@@ -1,15 +1,11 @@
 -- What evaluation keeps, whatever it is: an invariant of states, and computations that keep it and come to a fine answer.
 use Rattle.std.proofs.Common.{◌≡◌, ℕ, zero, suc, ◌-◌, List, [], ◌∷◌, ◌++◌, length, Option, Some, refl}
 use Rattle.std.specs.Prelude.{Bool, true, false, ℤ, nat_le, if◌then◌else◌, slice_get, slice_set}
-use Rattle.std.specs.declared.rc.Rc.{Rc}
-use Rattle.std.specs.declared.alloc.Global.{Global}
 use Rattle.je_core.specs.Defaults.{default_of}
 use Rattle.je_core.specs.declared.expr.BinOp.{BinOp}
 use Rattle.je_core.specs.declared.object.Obj.{Obj}
 use Rattle.je_core.specs.declared.object.Obj.TheVariants.{Instance}
-use Rattle.je_core.specs.declared.program.Method.{Method}
-use Rattle.je_core.specs.declared.program.Program.{Program}
-use Rattle.je_core.specs.declared.stmt.Stmt.{Stmt}
+use Rattle.je_core.specs.Core.{CoreStmt, CoreMethod, CoreProgram}
 use Rattle.je_core.specs.declared.types.ClassId.{ClassId}
 use Rattle.je_core.specs.declared.value.ObjId.{ObjId}
 use Rattle.je_core.specs.declared.value.Value.{Value}
@@ -43,7 +39,7 @@ module _ (I : Invariant) where
   Known A = I.Time → A → Type 0
 
   pub record StateFits (t : I.Time) (c : I.Context) (s : State) : Type 0 where
-    pub objects : I.ObjectsFit t s.objects
+    pub objects : I.ObjectsFit t s.world.objects
     pub own : I.OwnFits t c s.own
 
   -- a run that goes on well with what is known of its value, at any later time
@@ -52,10 +48,10 @@ module _ (I : Invariant) where
 
   -- ways out that go on well from any own variables, with the values that a body returns
   pub record ExitsFit (t : I.Time) (L : Known Value) (exits : Exits) : Type 0 where
-    pub leave : (u : I.Time) → I.Later t u → (value : Value) → L u value → (s : State) → I.ObjectsFit u s.objects →
+    pub leave : (u : I.Time) → I.Later t u → (value : Value) → L u value → (s : State) → I.ObjectsFit u s.world.objects →
         I.Fine (exits.leave value s)
     pub throw : (u : I.Time) → I.Later t u → (exception : ObjId) → I.Throws u exception → (s : State) →
-        I.ObjectsFit u s.objects → I.Fine (exits.throw exception s)
+        I.ObjectsFit u s.world.objects → I.Fine (exits.throw exception s)
 
   -- a computation that is fine from a time and a context on: it goes from that context to another, gives values of
   -- which Q is known, and leaves its body with values of which L is known
@@ -194,7 +190,7 @@ module _ {I : Invariant} {L : Known I Value} {t : I.Time} {c : I.Context} where
       ((objects : List Obj) → I.ObjectsFit t objects → class_of objects object.0 ≡ Some class) → Q t class →
       Safe I L t c c Q (get_class object)
   unfolding get_class
-  safe-get_class object class q r = record { run = λ go exits on out s fits. rw (q s.objects fits.objects) (on.from t (I.same t) class r s fits) }
+  safe-get_class object class q r = record { run = λ go exits on out s fits. rw (q s.world.objects fits.objects) (on.from t (I.same t) class r s fits) }
 
   pub safe-get_slot : {Q : Known I Value} (object : ObjId) (at : ℕ) →
       ((objects : List Obj) → I.ObjectsFit t objects →
@@ -203,7 +199,7 @@ module _ {I : Invariant} {L : Known I Value} {t : I.Time} {c : I.Context} where
   unfolding get_slot
   safe-get_slot object at q = record {
     run = λ go exits on out s fits.
-        let found = q s.objects fits.objects in
+        let found = q s.world.objects fits.objects in
         rw found.1 (on.from t (I.same t) found.0 found.2 s fits);
   }
 
@@ -214,8 +210,8 @@ module _ {I : Invariant} {L : Known I Value} {t : I.Time} {c : I.Context} where
   unfolding put_slot
   safe-put_slot object at value q r = record {
     run = λ go exits on out s fits.
-        let found = q s.objects fits.objects in
-        rw found.1 (on.from t (I.same t) value r (with_objects s (with_slot s.objects object.0 at value)) (record { objects = found.2; own = fits.own }));
+        let found = q s.world.objects fits.objects in
+        rw found.1 (on.from t (I.same t) value r (with_objects s (with_slot s.world.objects object.0 at value)) (record { objects = found.2; own = fits.own }));
   }
 
   -- what is known of the objects grows by the new one
@@ -226,8 +222,8 @@ module _ {I : Invariant} {L : Known I Value} {t : I.Time} {c : I.Context} where
   unfolding new_object
   safe-new_object object q = record {
     run = λ go exits on out s fits.
-        let made = q s.objects fits.objects in
-        on.from made.0 made.1 (record { 0 = length s.objects }) made.3 (with_objects s (s.objects ++ object ∷ [])) (record { objects = made.2; own = I.keeps_own made.1 fits.own });
+        let made = q s.world.objects fits.objects in
+        on.from made.0 made.1 (record { 0 = length s.world.objects }) made.3 (with_objects s (s.world.objects ++ object ∷ [])) (record { objects = made.2; own = I.keeps_own made.1 fits.own });
   }
 
 module _ {I : Invariant} {L : Known I Value} {t : I.Time} {c : I.Context} where
@@ -238,7 +234,7 @@ module _ {I : Invariant} {L : Known I Value} {t : I.Time} {c : I.Context} where
   unfolding binary
   safe-binary op x y q = safe-need _ refl (safe-need _ refl (safe-ret (Int (operate op x y)) q))
 
-  pub safe-make : {Q : Known I ObjId} {slots : List Value} (program : Program) (class : ClassId) →
+  pub safe-make : {Q : Known I ObjId} {slots : List Value} (program : CoreProgram) (class : ClassId) →
       fresh_slots program class ≡ Some slots →
       ((u : I.Time) → I.Later t u → (objects : List Obj) → I.ObjectsFit u objects →
       (v : I.Time) × I.Later u v × I.ObjectsFit v (objects ++ Instance class slots ∷ []) × Q v (record { 0 = length objects })) →
@@ -247,7 +243,7 @@ module _ {I : Invariant} {L : Known I Value} {t : I.Time} {c : I.Context} where
   safe-make {slots = slots} program class e q = safe-need _ e (safe-seq (safe-charge (length slots)) λ u l. safe-new_object _ (q u l))
 
   -- an exception that is thrown once it is made
-  pub safe-raise : {A : Type 0} {d : I.Context} {Q : Known I A} {slots : List Value} (program : Program) (class : ClassId) →
+  pub safe-raise : {A : Type 0} {d : I.Context} {Q : Known I A} {slots : List Value} (program : CoreProgram) (class : ClassId) →
       fresh_slots program class ≡ Some slots →
       ((u : I.Time) → I.Later t u → (objects : List Obj) → I.ObjectsFit u objects →
       (v : I.Time) × I.Later u v × I.ObjectsFit v (objects ++ Instance class slots ∷ []) × I.Throws v (record { 0 = length objects })) →
@@ -256,12 +252,12 @@ module _ {I : Invariant} {L : Known I Value} {t : I.Time} {c : I.Context} where
   safe-raise program class e q = safe-bind (safe-make program class e q) λ u l exception r. safe-throw exception r
 
   -- of a reference there is the object
-  pub safe-deref : {B : Type 0} {d : I.Context} {Q : Known I B} (program : Program) (object : ObjId) (f : ObjId → Computation B) →
+  pub safe-deref : {B : Type 0} {d : I.Context} {Q : Known I B} (program : CoreProgram) (object : ObjId) (f : ObjId → Computation B) →
       Safe I L t c d Q (f object) → Safe I L t c d Q (bind (deref program (Ref object)) f)
   unfolding deref bind ret
   safe-deref program object f p = record { run = λ go exits on out. p.run go exits on out }
 
-  pub safe-read_field : {Q : Known I Value} {slot : ℕ} (program : Program) (class : ClassId) (field : ℕ) (object : ObjId) →
+  pub safe-read_field : {Q : Known I Value} {slot : ℕ} (program : CoreProgram) (class : ClassId) (field : ℕ) (object : ObjId) →
       field_slot program class field ≡ Some slot →
       ((objects : List Obj) → I.ObjectsFit t objects →
       (value : Value) × (slot_of objects object.0 slot ≡ Some value) × Q t value) →
@@ -269,7 +265,7 @@ module _ {I : Invariant} {L : Known I Value} {t : I.Time} {c : I.Context} where
   unfolding read_field
   safe-read_field program class field object e q = safe-deref _ object _ (safe-need _ e (safe-get_slot object _ q))
 
-  pub safe-write_field : {Q : Known I Value} {slot : ℕ} (program : Program) (class : ClassId) (field : ℕ) (object : ObjId) (value : Value) →
+  pub safe-write_field : {Q : Known I Value} {slot : ℕ} (program : CoreProgram) (class : ClassId) (field : ℕ) (object : ObjId) (value : Value) →
       field_slot program class field ≡ Some slot →
       ((objects : List Obj) → I.ObjectsFit t objects →
       (old : Value) × (slot_of objects object.0 slot ≡ Some old) × I.ObjectsFit t (with_slot objects object.0 slot value)) →
@@ -278,9 +274,9 @@ module _ {I : Invariant} {L : Known I Value} {t : I.Time} {c : I.Context} where
   safe-write_field program class field object value e q r = safe-deref _ object _ (safe-need _ e (safe-put_slot object _ value q r))
 
   -- a method's body, with its receiver and its arguments
-  pub safe-run_method : {P Q : Known I Value} {d e : I.Context} {block : Rc Stmt Global} (m : Meanings) (method : Method) (this : Value) (given : List Value) →
+  pub safe-run_method : {P Q : Known I Value} {d e : I.Context} {block : CoreStmt} (m : Meanings) (method : CoreMethod) (this : Value) (given : List Value) →
       method.body ≡ Some block → I.OwnFits t d (record { this = this; locals = locals_for method given }) →
-      Safe I P t d e Any (m.exec block.value) →
+      Safe I P t d e Any (m.exec block) →
       ((u : I.Time) (value : Value) → P u value → Q u value) →
       ((u : I.Time) → I.Later t u → Q u (default_of method.returns)) →
       Safe I L t c c Q (run_method m method this given)

@@ -2,31 +2,26 @@
 use Rattle.std.proofs.Common.{◌≡◌, ℕ, zero, suc, ◌+◌, ◌≤◌, List, [], ◌∷◌, length, Some, refl, sym, subst, arith}
 use Rattle.std.specs.Prelude.{Bool, true, false, slice_get}
 use Rattle.std.proofs.lemmas.List.Elements.{All-nil}
-use Rattle.je_core.specs.declared.expr.Expr.{Expr}
-use Rattle.je_core.specs.declared.expr.Form.{out-Form}
-use Rattle.je_core.specs.declared.program.Method.{Method}
-use Rattle.je_core.specs.declared.program.Program.{Program}
+use Rattle.je_core.specs.Core.{Core, CoreForm, CoreStmt, CoreMethod, CoreProgram, form_of, stmt_form_of}
 use Rattle.je_base.specs.declared.span.NameId.{NameId}
-use Rattle.je_core.specs.declared.stmt.Stmt.{Stmt}
-use Rattle.je_core.specs.declared.stmt.StmtForm.{out-StmtForm}
 use Rattle.je_core.specs.declared.value.Value.{Value}
 use Rattle.je_core.specs.declared.value.Value.TheVariants.{Int, Null, Ref}
 use Rattle.je_java.specs.Steps.{Computation, constant}
-use Rattle.je_java.specs.Meaning.{Meanings, Exprs, Stmts, adding, with_values, run_method, run_virtual, run_exact, run_new, apply, start_call, eval_form, block, exec_form, meanings, java}
+use Rattle.je_java.specs.Meaning.{Meanings, adding, with_values, run_method, run_virtual, run_exact, run_new, apply, start_call, eval_form, block, exec_form, meanings, java}
 use Rattle.one_program.specs.Elaboration.{one_class}
 use Rattle.one_program.specs.declared.scope.Sort.{Sort}
 use Rattle.one_program.specs.declared.scope.Sort.TheVariants.{Int as int, Object as object}
 use Rattle.one_program.specs.Scope.{Members}
 use Rattle.one_sound.proofs.Safe.{Any, safe-ret, safe-bind, safe-seq, safe-yields, safe-need, safe-spent, safe-leave, safe-tick, safe-deref, safe-get_class, safe-run_method}
 use Rattle.one_sound.proofs.Values.{IsInt, Ints, Ints-push, Holds, an_int, an_object, Holds-later, class_at_object}
-use Rattle.one_sound.proofs.Typing.{Context, ExprTyped, AllTyped, StmtTyped, StmtsTyped, MethodTyped, ConstructorTyped, ProgramTyped}
+use Rattle.one_sound.proofs.Typing.{Context, ExprTyped, FormTyped, AllTyped, StmtTyped, StmtsTyped, MethodTyped, ConstructorTyped, ProgramTyped}
 use Rattle.one_sound.proofs.Kept.{Keeps, keeps-this, keeps-get_local, keeps-put_local, keeps-binary, keeps-read_field, keeps-write_field, keeps-initialize, keeps-make, own-begins}
 
 -- meanings that keep what holds
 pub record KeepsAll (members : Members) (m : Meanings) : Type 0 where
-  pub eval : {c d : Context} {sort : Sort} {e : Expr} → ExprTyped members c d sort e → (t : ℕ) →
+  pub eval : {c d : Context} {sort : Sort} {e : Core} → ExprTyped members c d sort e → (t : ℕ) →
       Keeps (length members.fields) t c d (Holds sort) (m.eval e)
-  pub exec : {c d : Context} {s : Stmt} → StmtTyped members c d s → (t : ℕ) →
+  pub exec : {c d : Context} {s : CoreStmt} → StmtTyped members c d s → (t : ℕ) →
       Keeps (length members.fields) t c d Any (m.exec s)
 
 -- one more int
@@ -39,7 +34,7 @@ keeps-adding go q (an_int {x = x}) p = p _ (Ints-push x q)
 
 module _ {members : Members} {m : Meanings} (g : KeepsAll members m) where
   -- arguments, from left to right, and then what is done with their values
-  pub keeps-with_values : {c : Context} {es : Exprs} {t n : ℕ} {done : List Value} (go : List Value → Computation Value) →
+  pub keeps-with_values : {c : Context} {es : List Core} {t n : ℕ} {done : List Value} (go : List Value → Computation Value) →
       AllTyped members c es → Ints n done →
       ((u : ℕ) → t ≤ u → (given : List Value) → Ints (length es + n) given →
       Keeps (length members.fields) u c c (Holds int) (go given)) →
@@ -50,19 +45,19 @@ module _ {members : Members} {m : Meanings} (g : KeepsAll members m) where
       keeps-adding (with_values m es go) q r λ done s. keeps-with_values go fs s λ v k given z.
       p v (omega arith) given (subst (λ k. Ints k given) (let h : length es + suc n ≡ suc (length es) + n = omega arith in h) z)
 
-  pub keeps-args : {c : Context} {es : Exprs} {t : ℕ} (go : List Value → Computation Value) → AllTyped members c es →
+  pub keeps-args : {c : Context} {es : List Core} {t : ℕ} (go : List Value → Computation Value) → AllTyped members c es →
       ((u : ℕ) → t ≤ u → (given : List Value) → Ints (length es) given →
       Keeps (length members.fields) u c c (Holds int) (go given)) →
       Keeps (length members.fields) t c c (Holds int) (with_values m es go [])
   keeps-args {es = es} go fs p = keeps-with_values go fs (record { length_is = refl; all = All-nil IsInt }) λ u l given r.
       p u l given (subst (λ k. Ints k given) (let h : length es + 0 ≡ length es = omega arith in h) r)
 
-  pub keeps-block : {c d : Context} {ss : Stmts} → StmtsTyped members c d ss → (t : ℕ) →
+  pub keeps-block : {c d : Context} {ss : List CoreStmt} → StmtsTyped members c d ss → (t : ℕ) →
       Keeps (length members.fields) t c d Any (block m ss)
   keeps-block StmtsTyped.end t = safe-ret tt (record {})
   keeps-block (StmtsTyped.next f fs) t = safe-seq (g.exec f t) λ u l. keeps-block fs u
 
-  pub keeps-method : {c : Context} {t : ℕ} {x : NameId} {is_static : Bool} {arity : ℕ} (method : Method) (this : Value) (given : List Value) →
+  pub keeps-method : {c : Context} {t : ℕ} {x : NameId} {is_static : Bool} {arity : ℕ} (method : CoreMethod) (this : Value) (given : List Value) →
       MethodTyped members (record { name = x; is_static = is_static; arity = arity }) method → Ints arity given →
       (is_static ≡ false → Holds object t this) →
       Keeps (length members.fields) t c c (Holds int) (run_method m method this given)
@@ -72,7 +67,7 @@ module _ {members : Members} {m : Meanings} (g : KeepsAll members m) where
       (λ u value h. h)
       (λ u l. rw f.returns an_int)
 
-  keeps-constructor : {c : Context} {t : ℕ} (method : Method) (this : Value) → ConstructorTyped members method →
+  keeps-constructor : {c : Context} {t : ℕ} (method : CoreMethod) (this : Value) → ConstructorTyped members method →
       Holds object t this →
       Keeps (length members.fields) t c c Any (run_method m method this [])
   keeps-constructor {t = t} method this f r =
@@ -81,12 +76,7 @@ module _ {members : Members} {m : Meanings} (g : KeepsAll members m) where
       (λ u value h. record {})
       (λ u l. record {})
 
-keeps-no_args : {fields t : ℕ} {c : Context} {Q : ℕ → Value → Type 0} {es : Exprs} (m : Meanings)
-    (go : List Value → Computation Value) → es ≡ [] →
-    Keeps fields t c c Q (go []) → Keeps fields t c c Q (with_values m es go [])
-keeps-no_args m go e p = rw e p
-
-module _ {members : Members} {program : Program} (p : ProgramTyped members program) {m : Meanings} (g : KeepsAll members m) where
+module _ {members : Members} {program : CoreProgram} (p : ProgramTyped members program) {m : Meanings} (g : KeepsAll members m) where
   keeps-run_exact : {c : Context} {t : ℕ} {x : NameId} {arity : ℕ} (number : ℕ) (given : List Value) →
       slice_get members.methods number ≡ Some (record { name = x; is_static = true; arity = arity }) →
       Ints arity given →
@@ -112,38 +102,42 @@ module _ {members : Members} {program : Program} (p : ProgramTyped members progr
       safe-bind (keeps-make program p.fresh p.are_ints) λ u l o h.
       safe-need _ found.1 (safe-yields (Ref o) (keeps-constructor g found.0 (Ref o) found.2 h) λ v k. Holds-later k h)
 
-  pub keeps-expr : {c d : Context} {sort : Sort} {e : Expr} → ExprTyped members c d sort e → (t : ℕ) →
-      Keeps (length members.fields) t c d (Holds sort) (eval_form program m (out-Form e.form))
+  keeps-form : {c d : Context} {sort : Sort} {form : CoreForm} → FormTyped members c d sort form → (t : ℕ) →
+      Keeps (length members.fields) t c d (Holds sort) (eval_form program m form)
   unfolding start_call apply constant
-  keeps-expr (ExprTyped.constant {value = value} q) t = rw q (safe-ret (Int value) an_int)
-  keeps-expr (ExprTyped.local {number = number} q e) t = rw q (keeps-get_local number e)
-  keeps-expr (ExprTyped.this q e) t = rw q (keeps-this e)
-  keeps-expr (ExprTyped.field {number = number} q h f) t =
-      rw q (safe-bind (g.eval f t) λ u l o r. keeps-read_field program number (p.slot number h) h r)
-  keeps-expr (ExprTyped.binary {op = op} q f f') t =
-      rw q (safe-bind (g.eval f t) λ u l a r. safe-bind (g.eval f' u) λ v k b s. keeps-binary op (Holds-later k r) s)
-  keeps-expr (ExprTyped.call_static {number = number} q e fs) t =
-      rw q (keeps-args g _ fs λ u l given r. keeps-run_exact number given e r)
-  keeps-expr (ExprTyped.call_on {number = number} q e f fs) t =
-      rw q (safe-bind (g.eval f t) λ u l this h.
-      keeps-args g _ fs λ v k given r. keeps-run_virtual number given e (Holds-later k h) r)
-  keeps-expr (ExprTyped.make q none) t = rw q (keeps-no_args m _ none keeps-run_new)
-  keeps-expr (ExprTyped.assign_local {number = number} q q' e f) t =
-      rw (q, q') (safe-bind (g.eval f t) λ u l a r. keeps-put_local number e r)
-  keeps-expr (ExprTyped.assign_field {number = number} q q' h f f') t =
-      rw (q, q') (safe-bind (g.eval f t) λ u l o r. safe-bind (g.eval f' u) λ v k a s.
-      keeps-write_field program number (p.slot number h) h (Holds-later k r) s)
-  keeps-expr (ExprTyped.initialize x q q' h f) t =
-      rw (q, q') (safe-bind (g.eval f t) λ u l a r. keeps-initialize _ h r)
+  keeps-form (FormTyped.constant {value = value}) t = safe-ret (Int value) an_int
+  keeps-form (FormTyped.local {number = number} e) t = keeps-get_local number e
+  keeps-form (FormTyped.this e) t = keeps-this e
+  keeps-form (FormTyped.field {number = number} h f) t =
+      safe-bind (g.eval f t) λ u l o r. keeps-read_field program number (p.slot number h) h r
+  keeps-form (FormTyped.binary {op = op} f f') t =
+      safe-bind (g.eval f t) λ u l a r. safe-bind (g.eval f' u) λ v k b s. keeps-binary op (Holds-later k r) s
+  keeps-form (FormTyped.call_static {number = number} e fs) t =
+      keeps-args g _ fs λ u l given r. keeps-run_exact number given e r
+  keeps-form (FormTyped.call_on {number = number} e f fs) t =
+      safe-bind (g.eval f t) λ u l this h.
+      keeps-args g _ fs λ v k given r. keeps-run_virtual number given e (Holds-later k h) r
+  keeps-form FormTyped.make t = keeps-run_new
+  keeps-form (FormTyped.assign_local {number = number} e f) t =
+      safe-bind (g.eval f t) λ u l a r. keeps-put_local number e r
+  keeps-form (FormTyped.assign_field {number = number} h f f') t =
+      safe-bind (g.eval f t) λ u l o r. safe-bind (g.eval f' u) λ v k a s.
+      keeps-write_field program number (p.slot number h) h (Holds-later k r) s
+  keeps-form (FormTyped.initialize x h f) t =
+      safe-bind (g.eval f t) λ u l a r. keeps-initialize _ h r
 
-  pub keeps-stmt : {c d : Context} {s : Stmt} → StmtTyped members c d s → (t : ℕ) →
-      Keeps (length members.fields) t c d Any (exec_form m (out-StmtForm s.form))
-  keeps-stmt (StmtTyped.does q f) t = rw q (safe-seq (g.eval f t) λ u l. safe-ret tt (record {}))
-  keeps-stmt (StmtTyped.returns q f) t = rw q (safe-bind (g.eval f t) λ u l a r. safe-leave a r)
-  keeps-stmt (StmtTyped.block q fs) t = rw q (keeps-block g fs t)
+  pub keeps-expr : {c d : Context} {sort : Sort} {e : Core} → ExprTyped members c d sort e → (t : ℕ) →
+      Keeps (length members.fields) t c d (Holds sort) (eval_form program m (form_of e))
+  keeps-expr (ExprTyped.of f) t = keeps-form f t
+
+  pub keeps-stmt : {c d : Context} {s : CoreStmt} → StmtTyped members c d s → (t : ℕ) →
+      Keeps (length members.fields) t c d Any (exec_form m (stmt_form_of s))
+  keeps-stmt (StmtTyped.does f) t = safe-seq (g.eval f t) λ u l. safe-ret tt (record {})
+  keeps-stmt (StmtTyped.returns f) t = safe-bind (g.eval f t) λ u l a r. safe-leave a r
+  keeps-stmt (StmtTyped.block fs) t = keeps-block g fs t
 
 -- however deep nodes nest
-pub meanings_keep : {members : Members} {program : Program} → ProgramTyped members program → (n : ℕ) →
+pub meanings_keep : {members : Members} {program : CoreProgram} → ProgramTyped members program → (n : ℕ) →
     KeepsAll members (meanings program n)
 unfolding meanings
 meanings_keep p zero = record { eval = λ f t. safe-spent; exec = λ f t. safe-spent }
@@ -153,7 +147,7 @@ meanings_keep p (suc n) = record {
 }
 
 -- evaluation keeps what holds
-pub java_keeps : {members : Members} {program : Program} → ProgramTyped members program →
+pub java_keeps : {members : Members} {program : CoreProgram} → ProgramTyped members program →
     KeepsAll members (java program)
 unfolding java
 java_keeps p = record {

@@ -1,25 +1,21 @@
 -- The nodes that a One's expressions and statements come to are well typed.
 use Rattle.std.proofs.Common.{◌≡◌, ℕ, ◌<◌, ◌≤◌, List, [], ◌∷◌, ◌++◌, length, Option, Some, None, refl, sym, subst, ap, ◌∙◌, arith, length-append, inl, inr}
-use Rattle.std.specs.Prelude.{Bool, true, false, IsSome, slice_get, ◌⊎◌}
-use Rattle.std.proofs.lemmas.Option.{same_Some}
-use Rattle.std.specs.declared.rc.Rc.{Rc}
-use Rattle.std.specs.declared.alloc.Global.{Global}
-use Rattle.je_core.specs.declared.expr.Expr.{Expr}
-use Rattle.je_core.specs.declared.expr.Form.{out-Form}
-use Rattle.je_core.specs.declared.expr.Form.TheOpen as form
+use Rattle.std.specs.Prelude.{ℤ, ◌+◌, Bool, true, false, IsSome, slice_get, ◌⊎◌}
 use Rattle.je_base.specs.declared.span.NameId.{NameId}
-use Rattle.je_core.specs.declared.stmt.Stmt.{Stmt}
-use Rattle.je_core.specs.declared.types.Ty.{Ty}
-use Rattle.one_syntax.specs.Trees.{ExprTree, call, ExprTrees, StatementTree, declare, make, assign, perform}
+use Rattle.je_core.specs.Core.{Core, CoreStmt, list_of, cores, stmt_list_of, core_stmts}
+use Rattle.je_core.proofs.Views.{list_of_cores}
+use Rattle.one_syntax.specs.Trees.{ExprTree, decimal, name, call, brackets, binary, ExprTrees, none, more, StatementTree, declare, make, assign, perform}
 use Rattle.one_program.specs.declared.scope.Head.{Head}
 use Rattle.one_program.specs.declared.scope.Sort.{Sort}
 use Rattle.one_program.specs.declared.scope.Sort.TheVariants.{Int as int, Object as object}
 use Rattle.one_program.specs.declared.scope.Variable.{Variable}
-use Rattle.one_program.specs.Scope.{Scope, Members, local_of, field_of, objects_of, after}
-use Rattle.one_program.specs.Conditions.{IsIntName, IsMethodOf, NamesMethod, count, ExprFits, ArgsFit, StatementFits, BodyFits}
-use Rattle.one_program.specs.Elaboration.{one_class, IsLocal, IsOwnField, IsExpr, is_constant, is_local, is_field, is_brackets, is_binary, is_call, IsCall, calls_static, calls_own, calls_on, AreExprs, no_exprs, more_exprs, IsDo, IsAssign, IsStatement, is_declare, is_make, is_assign_local, is_assign_field, is_perform, IsBody, is_return, is_next, locals_of}
+use Rattle.one_program.specs.Scope.{Scope, Members, local_of, field_of, objects_of, after, inside}
+use Rattle.one_program.specs.Conditions.{IsIntName, NamesMethod, count, ExprFits, ArgsFit, StatementFits, BodyFits}
+use Rattle.one_program.specs.Constants.{constant_of}
+use Rattle.one_program.specs.Elaboration.{int_type, place_or, place, constant, constant_or, simple_call, call_of, core_of, cores_of, stores, statement_of, body_of, locals_of}
+use Rattle.one_sound.proofs.Gives.{Gives, nothing, gives, gives-next}
 use Rattle.one_sound.proofs.Names.{AreBarred, ObjectsBarred, ObjectsBarred-more, ObjectsBarred-int, ObjectsBarred-object, place_of-within, int_found}
-use Rattle.one_sound.proofs.Typing.{Context, ExprTyped, AllTyped, StmtTyped, StmtsTyped}
+use Rattle.one_sound.proofs.Typing.{Context, ExprTyped, FormTyped, AllTyped, StmtTyped, StmtsTyped}
 
 abbrev head : NameId → Bool → ℕ → Head
 head x is_static arity = record { name = x; is_static = is_static; arity = arity }
@@ -36,59 +32,83 @@ in_instance {scope = scope} {x = x} q e = by q.found
     by (inl found) = absurd (cc)
     by (inr field) = field.0
 
--- an instance method is called without a point from an instance method alone
-calls_in_instance : {scope : Scope} {x : NameId} {arity number : ℕ} → NamesMethod scope None x arity →
-    IsMethodOf scope x number false arity → scope.is_static ≡ false
-calls_in_instance {scope = scope} {x = x} {arity = arity} {number = number} names q = by scope.is_static names.1.1.1
-  where
-    is_instance : names.1.0 ≡ false
-    is_instance =
-        let same : names.0 ≡ number = same_Some _ _ (sym names.1.1.0.found ∙ q.found) in
-        let heads : Some (head x names.1.0 arity) ≡ Some (head x false arity) = sym names.1.1.0.head ∙ rw same q.head in
-        ap (λ (h : Head). h.is_static) (same_Some _ _ heads)
+-- a constant expression in place of another
+constant_or-typed : {P : Core → Type 0} {o : Option Core} (v : Option ℤ) → ((value : ℤ) → P (constant value)) → Gives P o → Gives P (constant_or v o)
+constant_or-typed None c p = p
+constant_or-typed (Some value) c p = gives (c value)
 
-    by : (b : Bool) → (b ≡ true → names.1.0 ≡ true) → b ≡ false
-    by false p = refl
-    by true p = absurd (let yes : names.1.0 ≡ true = p refl in let no : names.1.0 ≡ false = is_instance in cc)
+-- arguments that are typed, as many as the trees
+record ArgsTyped (members : Members) (c : Context) (ts : ExprTrees) (es : List Core) : Type 0 where
+  pub all : AllTyped members c es
+  pub count : count ts ≡ length es
 
-pub args_count : {scope : Scope} {ts : ExprTrees} {nodes : List (Rc Expr Global)} → AreExprs scope ts nodes →
-    count ts ≡ length nodes
-args_count no_exprs = refl
-args_count (more_exprs {ts = ts} {nodes = nodes} e es) = let h : count ts ≡ length nodes = args_count es in omega arith
+module _ (scope : Scope) (room : ℕ) (b : ObjectsBarred scope.barred scope.locals) where
+  abbrev here : Context
+  here = context_of scope room
 
--- the method that a call names, by as many arguments as it has
-method_head : {scope : Scope} {x : NameId} {number : ℕ} {is_static : Bool} {ts : ExprTrees}
-    {nodes : List (Rc Expr Global)} → IsMethodOf scope x number is_static (count ts) → AreExprs scope ts nodes →
-    slice_get scope.members.methods number ≡ Some (head x is_static (length nodes))
-method_head {scope = scope} {x = x} {number = number} {is_static = is_static} q args =
-    subst (λ n. slice_get scope.members.methods number ≡ Some (head x is_static n)) (args_count args) q.head
+  abbrev IntTyped : Core → Type 0
+  IntTyped = ExprTyped scope.members here here int
 
-module _ {scope : Scope} (room : ℕ) (b : ObjectsBarred scope.barred scope.locals) where
+  -- a name, as a value and as a place
+  place-typed : (x : NameId) → IsIntName scope x → Gives IntTyped (place scope x)
+  place-typed x f = by (local_of scope x) refl (field_of scope x) refl
+    where
+      by : (l : Option ℕ) → local_of scope x ≡ l → (m : Option ℕ) → field_of scope x ≡ m → Gives IntTyped (place_or l m)
+      by (Some number) e m q = gives (ExprTyped.of (FormTyped.local (int_found x number b e f.allowed)))
+      by None n (Some number) e = gives (ExprTyped.of (FormTyped.field (place_of-within x scope.members.fields number e) (ExprTyped.of (FormTyped.this (in_instance f n)))))
+      by None n None e = nothing
+
+  pub place-stores : (x : NameId) → IsIntName scope x →
+      Gives (λ to. (value : Core) → IntTyped value → StmtTyped scope.members here here (stores int_type to value)) (place scope x)
+  place-stores x f = by (local_of scope x) refl (field_of scope x) refl
+    where
+      by : (l : Option ℕ) → local_of scope x ≡ l → (m : Option ℕ) → field_of scope x ≡ m →
+          Gives (λ to. (value : Core) → IntTyped value → StmtTyped scope.members here here (stores int_type to value)) (place_or l m)
+      by (Some number) e m q = gives λ value v. StmtTyped.does (ExprTyped.of (FormTyped.assign_local (int_found x number b e f.allowed) v))
+      by None n (Some number) e = gives λ value v.
+          StmtTyped.does (ExprTyped.of (FormTyped.assign_field (place_of-within x scope.members.fields number e) (ExprTyped.of (FormTyped.this (in_instance f n))) v))
+      by None n None e = nothing
+
+  -- a call, by what its method's name and its receiver stand for
+  abbrev IsHead : NameId → ℕ → Bool → ℕ → Type 0
+  IsHead x number is_static arity = slice_get scope.members.methods number ≡ Some (head x is_static arity)
+
+  listed-all : {es : List Core} → AllTyped scope.members here es → AllTyped scope.members here (list_of (cores es))
+  listed-all {es = es} fs = subst (AllTyped scope.members here) (sym (list_of_cores es)) fs
+
+  listed-head : (x : NameId) (number : ℕ) (is_static : Bool) (ts : ExprTrees) (es : List Core) → IsHead x number is_static (count ts) → count ts ≡ length es →
+      IsHead x number is_static (length (list_of (cores es)))
+  listed-head x number is_static ts es e n = subst (IsHead x number is_static) (n ∙ ap length (sym (list_of_cores es))) e
+
+  simple_call-typed : (x : NameId) (number : ℕ) (ts : ExprTrees) (es : List Core) (is_static : Bool) → IsHead x number is_static (count ts) → (scope.is_static ≡ true → is_static ≡ true) →
+      ArgsTyped scope.members here ts es → IntTyped (simple_call is_static number es)
+  simple_call-typed x number ts es true e i fs = ExprTyped.of (FormTyped.call_static (listed-head x number true ts es e fs.count) (listed-all fs.all))
+  simple_call-typed x number ts es false e i fs =
+      ExprTyped.of (FormTyped.call_on (listed-head x number false ts es e fs.count) (ExprTyped.of (FormTyped.this (by scope.is_static i))) (listed-all fs.all))
+    where
+      by : (s : Bool) → (s ≡ true → false ≡ true) → s ≡ false
+      by true i = absurd (let no : false ≡ true = i refl in cc)
+      by false i = refl
+
+  call_of-typed : (receiver : Option NameId) (x : NameId) (ts : ExprTrees) (es : List Core) → NamesMethod scope receiver x (count ts) → ArgsTyped scope.members here ts es →
+      Gives IntTyped (call_of scope receiver x es)
+  call_of-typed None x ts es f fs = rw (f.1.1.0.found, f.1.1.0.head) (gives (simple_call-typed x f.0 ts es f.1.0 f.1.1.0.head f.1.1.1 fs))
+  call_of-typed (Some r) x ts es f fs = rw (f.0.found, f.1.1.found)
+      (gives (ExprTyped.of (FormTyped.call_on (listed-head x f.1.0 false ts es f.1.1.head fs.count) (ExprTyped.of (FormTyped.local f.0.holds)) (listed-all fs.all))))
+
   mutual
-    expr-typed : {t : ExprTree} {node : Expr} → IsExpr scope t node → ExprFits scope t →
-        ExprTyped scope.members (context_of scope room) (context_of scope room) int node
-    expr-typed (is_constant e q) f = ExprTyped.constant q.form
-    expr-typed (is_local {x = x} {number = number} e q) f = ExprTyped.local q.form (int_found x number b e f.allowed)
-    expr-typed (is_field {x = x} {number = number} n e q) f =
-        ExprTyped.field q.form (place_of-within x scope.members.fields number e) (ExprTyped.this q.this.form (in_instance f n))
-    expr-typed (is_brackets e q) f = expr-typed q f
-    expr-typed (is_binary e q l r ty) f = ExprTyped.binary q (expr-typed l f.0) (expr-typed r f.1)
-    expr-typed (is_call q) f = call-typed q f
+    pub expr-typed : (t : ExprTree) → ExprFits scope t → Gives IntTyped (core_of scope t)
+    expr-typed (decimal v) f = gives (ExprTyped.of FormTyped.constant)
+    expr-typed (name x) f = place-typed x f
+    expr-typed (brackets t) f = constant_or-typed (constant_of t) (λ value. ExprTyped.of FormTyped.constant) (expr-typed t f)
+    expr-typed (binary op l r) f = constant_or-typed (constant_of (binary op l r)) (λ value. ExprTyped.of FormTyped.constant)
+        (gives-next (expr-typed l f.0) λ left p. gives-next (expr-typed r f.1) λ right q. gives (ExprTyped.of (FormTyped.binary p q)))
+    expr-typed (call receiver x ts) f = gives-next (args-typed ts f.1) λ es fs. call_of-typed receiver x ts es f.0 fs
 
-    call-typed : {receiver : Option NameId} {x : NameId} {ts : ExprTrees} {node : Expr} →
-        IsCall scope receiver x ts node → ExprFits scope (call receiver x ts) →
-        ExprTyped scope.members (context_of scope room) (context_of scope room) int node
-    call-typed (calls_static q e args ty) f = ExprTyped.call_static e (method_head q args) (args-typed args f.1)
-    call-typed (calls_own q e this args ty) f =
-        ExprTyped.call_on e (method_head q args) (ExprTyped.this this.form (calls_in_instance f.0 q)) (args-typed args f.1)
-    call-typed (calls_on {receiver = receiver} {local = local} l q e from args ty) f =
-        let same : f.0.0.number ≡ local = same_Some _ _ (sym f.0.0.found ∙ l) in
-        ExprTyped.call_on e (method_head q args) (ExprTyped.local {x = receiver} from.form (rw (← same) f.0.0.holds)) (args-typed args f.1)
-
-    args-typed : {ts : ExprTrees} {nodes : List (Rc Expr Global)} → AreExprs scope ts nodes → ArgsFit scope ts →
-        AllTyped scope.members (context_of scope room) nodes
-    args-typed no_exprs f = AllTyped.none
-    args-typed (more_exprs e es) f = AllTyped.more (expr-typed e f.0) (args-typed es f.1)
+    args-typed : (ts : ExprTrees) → ArgsFit scope ts → Gives (ArgsTyped scope.members here ts) (cores_of scope ts)
+    args-typed none f = gives (record { all = AllTyped.none; count = refl })
+    args-typed (more t ts) f = gives-next (expr-typed t f.0) λ e p. gives-next (args-typed ts f.1) λ es ps.
+        gives (record { all = AllTyped.more p ps.all; count = ap (λ n. 1 + n) ps.count ∙ omega arith })
 
 -- there is room for one more local
 room_for : {room : ℕ} (scope : Scope) (variable : Variable) → length (scope.locals ++ variable ∷ []) ≤ room →
@@ -107,38 +127,13 @@ locals_within scope (make class x made ∷ ss) =
 locals_within scope (assign x e ∷ ss) = locals_within scope ss
 locals_within scope (perform receiver x args ∷ ss) = locals_within scope ss
 
--- an expression that is done
-done-typed : {members : Members} {c d : Context} {sort : Sort} {node : Stmt} {e : Expr} → IsDo node e →
-    ExprTyped members c d sort e → StmtTyped members c d node
-done-typed {members = members} {c = c} {d = d} {sort = sort} q f = StmtTyped.does {sort = sort} q.form (rw q.is f)
-
--- the place and the value of an assignment
-local_place : {node place value : Expr} {ty type : Ty} {number : ℕ} (a : IsAssign node place value ty) →
-    IsLocal number type place → out-Form a.to.value.form ≡ form.Local number
-local_place a l = rw a.place_is l.form
-
-field_place : {node place value : Expr} {ty : Ty} {number : ℕ} (a : IsAssign node place value ty)
-    (o : IsOwnField number place) → out-Form a.to.value.form ≡ form.Field o.object one_class number
-field_place a o = rw a.place_is o.form
-
-value-typed : {members : Members} {c d : Context} {sort : Sort} {node place value : Expr} {ty : Ty}
-    (a : IsAssign node place value ty) → ExprTyped members c d sort value → ExprTyped members c d sort a.from.value
-value-typed a f = rw a.value_is f
-
-stmt-typed : {scope : Scope} {s : StatementTree} {node : Stmt} (room : ℕ) → ObjectsBarred scope.barred scope.locals →
-    length (after scope s).locals ≤ room →
-    IsStatement scope s node → StatementFits scope s →
-    StmtTyped scope.members (context_of scope room) (context_of (after scope s) room) node
-stmt-typed {scope = scope} room b h (is_declare {x = x} q a l e) f =
-    done-typed q (ExprTyped.initialize x a.form (local_place a l) (room_for scope _ h) (value-typed a (expr-typed room (ObjectsBarred-more x b) e f.1)))
-stmt-typed {scope = scope} room b h (is_make {x = x} q a l n) f =
-    done-typed q (ExprTyped.initialize x a.form (local_place a l) (room_for scope _ h) (value-typed a (ExprTyped.make n.form n.none)))
-stmt-typed room b h (is_assign_local {x = x} {number = number} q' q a l e) f =
-    done-typed q (ExprTyped.assign_local a.form (local_place a l) (int_found x number b q' f.0.allowed) (value-typed a (expr-typed room b e f.1)))
-stmt-typed {scope = scope} room b h (is_assign_field {x = x} {number = number} n e' q a o e) f =
-    done-typed q (ExprTyped.assign_field a.form (field_place a o) (place_of-within x scope.members.fields number e')
-    (ExprTyped.this o.this.form (in_instance f.0 n)) (value-typed a (expr-typed room b e f.1)))
-stmt-typed room b h (is_perform q c) f = done-typed q (call-typed room b c f)
+stmt-typed : {scope : Scope} (s : StatementTree) (room : ℕ) → ObjectsBarred scope.barred scope.locals → length (after scope s).locals ≤ room → StatementFits scope s →
+    Gives (StmtTyped scope.members (context_of scope room) (context_of (after scope s) room)) (statement_of scope s)
+stmt-typed {scope = scope} (declare x t) room b h f = gives-next (expr-typed (inside scope x) room (ObjectsBarred-more x b) t f.1) λ value v.
+    gives (StmtTyped.does (ExprTyped.of (FormTyped.initialize x (room_for scope _ h) v)))
+stmt-typed {scope = scope} (make class x made) room b h f = gives (StmtTyped.does (ExprTyped.of (FormTyped.initialize x (room_for scope _ h) (ExprTyped.of FormTyped.make))))
+stmt-typed {scope = scope} (assign x t) room b h f = gives-next (place-stores scope room b x f.0) λ to p. gives-next (expr-typed scope room b t f.1) λ value v. gives (p value v)
+stmt-typed {scope = scope} (perform receiver x ts) room b h f = gives-next (expr-typed scope room b (call receiver x ts) f) λ e p. gives (StmtTyped.does p)
 
 -- the scope behind a body
 abbrev pub behind : Scope → List StatementTree → Scope
@@ -164,14 +159,12 @@ after-barred scope (make class x made) ss b r = by r
 after-barred scope (assign x e) ss b r = (b, r)
 after-barred scope (perform receiver x args) ss b r = (b, r)
 
-pub body-typed : {scope : Scope} {ss : List StatementTree} {result : ExprTree} {nodes : List (Rc Stmt Global)}
-    (room : ℕ) → ObjectsBarred scope.barred scope.locals → AreBarred scope.barred (objects_of ss) →
-    length (locals_of scope ss) ≤ room → IsBody scope ss result nodes → BodyFits scope ss result →
-    StmtsTyped scope.members (context_of scope room) (context_of (behind scope ss) room) nodes
-body-typed room b r h (is_return q e) f = StmtsTyped.next (StmtTyped.returns q (expr-typed room b e f)) StmtsTyped.end
-body-typed {scope = scope} {ss = s ∷ ss} room b r h (is_next {nodes = nodes} q qs) f =
+pub body-typed : {scope : Scope} (ss : List StatementTree) (result : ExprTree) (room : ℕ) → ObjectsBarred scope.barred scope.locals → AreBarred scope.barred (objects_of ss) →
+    length (locals_of scope ss) ≤ room → BodyFits scope ss result →
+    Gives (StmtsTyped scope.members (context_of scope room) (context_of (behind scope ss) room)) (body_of scope ss result)
+body-typed {scope = scope} [] result room b r h f = gives-next (expr-typed scope room b result f) λ value p. gives (StmtsTyped.next (StmtTyped.returns p) StmtsTyped.end)
+body-typed {scope = scope} (s ∷ ss) result room b r h f =
     let kept = after-barred scope s ss b r in
     let within : length (after scope s).locals ≤ length (locals_of (after scope s) ss) = locals_within (after scope s) ss in
-    StmtsTyped.next (stmt-typed room b (omega arith) q f.0)
-    (subst (λ m. StmtsTyped m (context_of (after scope s) room) (context_of (behind (after scope s) ss) room) nodes)
-    (after-members scope s) (body-typed room kept.0 kept.1 h qs f.1))
+    gives-next (stmt-typed s room b (omega arith) f.0) λ first p. gives-next (body-typed ss result room kept.0 kept.1 h f.1) λ further ps.
+    gives (StmtsTyped.next p (subst (λ m. StmtsTyped m (context_of (after scope s) room) (context_of (behind (after scope s) ss) room) further) (after-members scope s) ps))

@@ -1,22 +1,15 @@
 -- Which nodes of the core program of a One are well typed, at a place of a method.
-use Rattle.std.proofs.Common.{◌≡◌, ℕ, ◌<◌, ◌≤◌, List, [], ◌∷◌, ◌++◌, length, map, Some, None}
+use Rattle.std.proofs.Common.{◌≡◌, ℕ, ◌<◌, ◌≤◌, List, [], ◌∷◌, ◌++◌, length, map, Some}
 use Rattle.std.specs.Prelude.{ℤ, Bool, true, false, slice_get}
-use Rattle.std.specs.declared.rc.Rc.{Rc}
-use Rattle.std.specs.declared.vec.Vec.{Vec}
-use Rattle.std.specs.declared.alloc.Global.{Global}
-use Rattle.je_core.specs.declared.expr.BinOp.{BinOp}
-use Rattle.je_core.specs.declared.expr.Expr.{Expr}
-use Rattle.je_core.specs.declared.expr.Form.{out-Form}
-use Rattle.je_core.specs.declared.expr.Form.TheOpen as form
-use Rattle.je_core.specs.declared.expr.Use.{Use}
-use Rattle.je_core.specs.declared.program.Method.{Method}
-use Rattle.je_core.specs.declared.program.Program.{Program}
 use Rattle.je_base.specs.declared.span.NameId.{NameId}
-use Rattle.je_core.specs.declared.stmt.Stmt.{Stmt}
-use Rattle.je_core.specs.declared.stmt.StmtForm.{out-StmtForm}
-use Rattle.je_core.specs.declared.stmt.StmtForm.TheOpen as stmt_form
+use Rattle.je_base.specs.declared.span.Span.{Span}
+use Rattle.je_core.specs.declared.expr.BinOp.{BinOp}
+use Rattle.je_core.specs.declared.expr.Use.{Use}
+use Rattle.je_core.specs.declared.types.Ty.{Ty}
 use Rattle.je_core.specs.declared.value.Value.{Value}
 use Rattle.je_core.specs.declared.value.Value.TheVariants.{Int}
+use Rattle.je_core.specs.Core.{Core, CoreForm, Const, Local, This, Field, Assign, Binary, CallVirtual, CallExact, New, Cores, CoreStmt, CoreStmts, Block, Do, Return, CoreMethod, CoreProgram, node, stmt, no_core, list_of, stmt_list_of}
+use Rattle.je_core.specs.Core as core
 use Rattle.je_java.specs.Classes.{method_at, fresh_slots, field_slot}
 use Rattle.one_program.specs.Elaboration.{one_class, int_type}
 use Rattle.one_program.specs.declared.scope.Head.{Head}
@@ -38,98 +31,85 @@ declaring c variable = record { is_static = c.is_static; locals = c.locals ++ va
 module _ (members : Members) where
   mutual
     -- a node that gives a value of a sort, and goes from one context to another
-    pub data ExprTyped (c : Context) : Context → Sort → Expr → Type 0 where
-      constant : {node : Expr} {value : ℤ} {uses : Vec Use Global} → out-Form node.form ≡ form.Const (Int value) uses →
-          ExprTyped c c int node
-      local : {node : Expr} {number : ℕ} {x : NameId} {sort : Sort} → out-Form node.form ≡ form.Local number →
-          slice_get c.locals number ≡ Some (record { name = x; sort = sort }) →
-          ExprTyped c c sort node
-      this : {node : Expr} → out-Form node.form ≡ form.This → c.is_static ≡ false → ExprTyped c c object node
-      field : {node : Expr} {from : Rc Expr Global} {number : ℕ} →
-          out-Form node.form ≡ form.Field from one_class number → number < length members.fields →
-          ExprTyped c c object from.value → ExprTyped c c int node
-      binary : {node : Expr} {op : BinOp} {left right : Rc Expr Global} →
-          out-Form node.form ≡ form.Binary op left right →
-          ExprTyped c c int left.value → ExprTyped c c int right.value → ExprTyped c c int node
-      call_static : {node : Expr} {number : ℕ} {args : Vec (Rc Expr Global) Global} {x : NameId} →
-          out-Form node.form ≡ form.CallExact None one_class number args →
-          slice_get members.methods number ≡ Some (record { name = x; is_static = true; arity = length args.items }) →
-          AllTyped c args.items → ExprTyped c c int node
-      call_on : {node : Expr} {from : Rc Expr Global} {number : ℕ} {args : Vec (Rc Expr Global) Global} {x : NameId} →
-          out-Form node.form ≡ form.CallVirtual from one_class number args →
-          slice_get members.methods number ≡ Some (record { name = x; is_static = false; arity = length args.items }) →
-          ExprTyped c c object from.value → AllTyped c args.items → ExprTyped c c int node
-      make : {node : Expr} {args : Vec (Rc Expr Global) Global} →
-          out-Form node.form ≡ form.New one_class (length members.methods) args → args.items ≡ [] →
-          ExprTyped c c object node
-      assign_local : {node : Expr} {to from : Rc Expr Global} {number : ℕ} {x : NameId} {sort : Sort} →
-          out-Form node.form ≡ form.Assign to from → out-Form to.value.form ≡ form.Local number →
-          slice_get c.locals number ≡ Some (record { name = x; sort = sort }) → ExprTyped c c sort from.value →
-          ExprTyped c c sort node
-      assign_field : {node : Expr} {to from of : Rc Expr Global} {number : ℕ} →
-          out-Form node.form ≡ form.Assign to from → out-Form to.value.form ≡ form.Field of one_class number →
-          number < length members.fields → ExprTyped c c object of.value → ExprTyped c c int from.value →
-          ExprTyped c c int node
+    pub data ExprTyped (c : Context) : Context → Sort → Core → Type 0 where
+      of : {d : Context} {sort : Sort} {form : CoreForm} {ty : Ty} {span at : Span} → FormTyped c d sort form → ExprTyped c d sort (node form ty span at)
+
+    pub data FormTyped (c : Context) : Context → Sort → CoreForm → Type 0 where
+      constant : {value : ℤ} {uses : List Use} → FormTyped c c int (Const (Int value) uses)
+      local : {number : ℕ} {x : NameId} {sort : Sort} → slice_get c.locals number ≡ Some (record { name = x; sort = sort }) →
+          FormTyped c c sort (Local number)
+      this : c.is_static ≡ false → FormTyped c c object This
+      field : {from : Core} {number : ℕ} → number < length members.fields → ExprTyped c c object from →
+          FormTyped c c int (Field from one_class number)
+      binary : {op : BinOp} {left right : Core} → ExprTyped c c int left → ExprTyped c c int right →
+          FormTyped c c int (Binary op left right)
+      call_static : {number : ℕ} {args : Cores} {x : NameId} →
+          slice_get members.methods number ≡ Some (record { name = x; is_static = true; arity = length (list_of args) }) →
+          AllTyped c (list_of args) → FormTyped c c int (CallExact no_core one_class number args)
+      call_on : {from : Core} {number : ℕ} {args : Cores} {x : NameId} →
+          slice_get members.methods number ≡ Some (record { name = x; is_static = false; arity = length (list_of args) }) →
+          ExprTyped c c object from → AllTyped c (list_of args) → FormTyped c c int (CallVirtual from one_class number args)
+      make : FormTyped c c object (New one_class (length members.methods) core.none)
+      assign_local : {ty : Ty} {span at : Span} {from : Core} {number : ℕ} {x : NameId} {sort : Sort} →
+          slice_get c.locals number ≡ Some (record { name = x; sort = sort }) → ExprTyped c c sort from →
+          FormTyped c c sort (Assign (node (Local number) ty span at) from)
+      assign_field : {ty : Ty} {span at : Span} {from value : Core} {number : ℕ} →
+          number < length members.fields → ExprTyped c c object from → ExprTyped c c int value →
+          FormTyped c c int (Assign (node (Field from one_class number) ty span at) value)
       -- the first value of a local, which is declared from then on
-      initialize : {node : Expr} {to from : Rc Expr Global} {sort : Sort} (x : NameId) →
-          out-Form node.form ≡ form.Assign to from → out-Form to.value.form ≡ form.Local (length c.locals) →
-          length c.locals < c.room → ExprTyped c c sort from.value →
-          ExprTyped c (declaring c (record { name = x; sort = sort })) sort node
+      initialize : {ty : Ty} {span at : Span} {from : Core} {sort : Sort} (x : NameId) →
+          length c.locals < c.room → ExprTyped c c sort from →
+          FormTyped c (declaring c (record { name = x; sort = sort })) sort (Assign (node (Local (length c.locals)) ty span at) from)
 
     -- int arguments
-    pub data AllTyped (c : Context) : List (Rc Expr Global) → Type 0 where
+    pub data AllTyped (c : Context) : List Core → Type 0 where
       none : AllTyped c []
-      more : {e : Rc Expr Global} {es : List (Rc Expr Global)} → ExprTyped c c int e.value → AllTyped c es →
-          AllTyped c (e ∷ es)
+      more : {e : Core} {es : List Core} → ExprTyped c c int e → AllTyped c es → AllTyped c (e ∷ es)
 
   mutual
-    pub data StmtTyped : Context → Context → Stmt → Type 0 where
-      does : {c d : Context} {sort : Sort} {node : Stmt} {e : Rc Expr Global} →
-          out-StmtForm node.form ≡ stmt_form.Do e → ExprTyped c d sort e.value → StmtTyped c d node
-      returns : {c : Context} {node : Stmt} {e : Rc Expr Global} → out-StmtForm node.form ≡ stmt_form.Return (Some e) →
-          ExprTyped c c int e.value → StmtTyped c c node
-      block : {c d : Context} {node : Stmt} {declared : Vec ℕ Global} {parts : Vec (Rc Stmt Global) Global} →
-          out-StmtForm node.form ≡ stmt_form.Block declared parts →
-          StmtsTyped c d parts.items → StmtTyped c d node
+    pub data StmtTyped : Context → Context → CoreStmt → Type 0 where
+      does : {c d : Context} {sort : Sort} {e : Core} {span at : Span} → ExprTyped c d sort e → StmtTyped c d (stmt (Do e) span at)
+      returns : {c : Context} {e : Core} {span at : Span} → ExprTyped c c int e → StmtTyped c c (stmt (Return (Some e)) span at)
+      block : {c d : Context} {declared : List ℕ} {parts : CoreStmts} {span at : Span} → StmtsTyped c d (stmt_list_of parts) →
+          StmtTyped c d (stmt (Block declared parts) span at)
 
-    pub data StmtsTyped : Context → Context → List (Rc Stmt Global) → Type 0 where
+    pub data StmtsTyped : Context → Context → List CoreStmt → Type 0 where
       end : {c : Context} → StmtsTyped c c []
-      next : {c d e : Context} {s : Rc Stmt Global} {ss : List (Rc Stmt Global)} → StmtTyped c d s.value →
-          StmtsTyped d e ss → StmtsTyped c e (s ∷ ss)
+      next : {c d e : Context} {s : CoreStmt} {ss : List CoreStmt} → StmtTyped c d s → StmtsTyped d e ss → StmtsTyped c e (s ∷ ss)
 
 -- a local that holds an int
 abbrev pub int_local : NameId → Variable
 int_local x = record { name = x; sort = int }
 
 -- the context in which a method's body begins
-abbrev pub begins : Bool → List NameId → Method → Context
-begins is_static params method = record { is_static = is_static; locals = map int_local params; room = length method.locals.items }
+abbrev pub begins : Bool → List NameId → CoreMethod → Context
+begins is_static params method = record { is_static = is_static; locals = map int_local params; room = length method.locals }
 
 -- a method of a One whose head is this
-pub record MethodTyped (members : Members) (head : Head) (method : Method) : Type 0 where
+pub record MethodTyped (members : Members) (head : Head) (method : CoreMethod) : Type 0 where
   pub flag : method.flags.is_static ≡ head.is_static
   pub returns : method.returns ≡ int_type
   pub params : List NameId
   pub arity : length params ≡ head.arity
-  pub room : length params ≤ length method.locals.items
-  pub block : Rc Stmt Global
+  pub room : length params ≤ length method.locals
+  pub block : CoreStmt
   pub has_body : method.body ≡ Some block
   pub after : Context
-  pub fits : StmtTyped members (begins head.is_static params method) after block.value
+  pub fits : StmtTyped members (begins head.is_static params method) after block
 
 -- the constructor
-pub record ConstructorTyped (members : Members) (method : Method) : Type 0 where
-  pub block : Rc Stmt Global
+pub record ConstructorTyped (members : Members) (method : CoreMethod) : Type 0 where
+  pub block : CoreStmt
   pub has_body : method.body ≡ Some block
   pub after : Context
-  pub fits : StmtTyped members (begins false [] method) after block.value
+  pub fits : StmtTyped members (begins false [] method) after block
 
 -- what evaluation needs of the core program of a One with these members
-pub record ProgramTyped (members : Members) (program : Program) : Type 0 where
+pub record ProgramTyped (members : Members) (program : CoreProgram) : Type 0 where
   pub slots : List Value
   pub fresh : fresh_slots program one_class ≡ Some slots
   pub are_ints : Ints (length members.fields) slots
   pub slot : (number : ℕ) → number < length members.fields → field_slot program one_class number ≡ Some number
   pub method : (number : ℕ) (head : Head) → slice_get members.methods number ≡ Some head →
-      (method : Method) × (method_at program one_class number ≡ Some method) × MethodTyped members head method
-  pub constructor : (method : Method) × (method_at program one_class (length members.methods) ≡ Some method) × ConstructorTyped members method
+      (method : CoreMethod) × (method_at program one_class number ≡ Some method) × MethodTyped members head method
+  pub constructor : (method : CoreMethod) × (method_at program one_class (length members.methods) ≡ Some method) × ConstructorTyped members method

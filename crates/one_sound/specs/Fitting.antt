@@ -1,16 +1,26 @@
 -- JLS 15.12.3, 15.12.4: what a method of a One may be called with, and in which world.
-use Rattle.std.specs.Prelude.{◌≡◌, ℕ, ◌<◌, ℤ, Bool, true, false, List, length, Some, All, slice_get}
+use Rattle.std.specs.Prelude.{◌≡◌, ℕ, ◌<◌, ℤ, Bool, true, false, List, [], length, Some, All, slice_get}
 use Rattle.je_core.specs.declared.object.Obj.{Obj}
 use Rattle.je_core.specs.declared.object.Obj.TheVariants.{Instance}
 use Rattle.je_core.specs.declared.value.ObjId.{ObjId}
 use Rattle.je_core.specs.declared.value.Value.{Value}
 use Rattle.je_core.specs.declared.value.Value.TheVariants.{Int, Null, Ref}
+use Rattle.je_java.specs.Steps.{Outside}
+use Rattle.je_java.specs.World.{World}
 use Rattle.one_program.specs.Elaboration.{one_class}
 use Rattle.one_program.specs.declared.scope.Head.{Head}
 use Rattle.one_program.specs.Scope.{Members}
 
 pub data IsInt : Value → Type 0 where
   is_int : {x : ℤ} → IsInt (Int x)
+
+-- the world in which nothing was made; a One has no class variables
+abbrev pub new_world : World
+new_world = record { objects = []; statics = [] }
+
+-- nothing stands outside a One
+abbrev pub no_outside : Outside
+no_outside = record {}
 
 -- as many ints
 pub record Ints (count : ℕ) (values : List Value) : Type 0 where

@@ -13,36 +13,36 @@
 //! - `proofs/Rows.antt`: a One with its core program, of which the law speaks, and its reply.
 #![tactic(auto)]
 
-ghost use Rattle.std.specs.Prelude.{◌≢◌, ℕ, List, []};
-ghost use Rattle.je_core.specs.declared.program.Program.{Program};
-ghost use Rattle.je_core.specs.declared.object.Obj.{Obj};
+ghost use Rattle.std.specs.Prelude.{◌≡◌, ◌≢◌, ℕ, List, [], Some};
+ghost use Rattle.je_core.specs.Core.{CoreProgram};
 ghost use Rattle.je_core.specs.declared.value.Value.{Value};
 ghost use Rattle.je_core.specs.declared.value.Value.TheVariants.{Null};
 ghost use Rattle.je_java.specs.Meaning.{call};
-ghost use Rattle.je_java.specs.Steps.{Wrong};
+ghost use Rattle.je_java.specs.Steps.{Outside, Wrong};
+ghost use Rattle.je_java.specs.World.{World};
 ghost use Rattle.one_syntax.specs.Trees.{OneTree};
 ghost use Rattle.one_program.specs.Conditions.{Fits, IsMain};
-ghost use Rattle.one_program.specs.Elaboration.{Elaborates, one_class};
+ghost use Rattle.one_program.specs.Elaboration.{one_class, program_of};
 ghost use Rattle.one_program.specs.Scope.{members_of};
-ghost use Rattle.one_sound.specs.Fitting.{CallFits};
+ghost use Rattle.one_sound.specs.Fitting.{new_world, no_outside, CallFits};
 ghost use Rattle.one_sound.specs.Replies.{Replies};
 
 /// A call of a One's method ends with an int, or because its units are spent, whatever their number, where the receiver is
 /// an object that is there, or null for a static method, the arguments are as many ints as the method has parameters, and
 /// the world has objects of the One alone.
 pub fn calls_reply()
-    ensures { (names all_names : List (List ℕ)) (one : OneTree) (program : Program) (number units : ℕ) (receiver : Value) (given : List Value) (objects : List Obj) →
-        Fits names one → Elaborates all_names one program → CallFits (members_of one) number receiver given objects →
-        Replies (call program units one_class number receiver given objects) }
+    ensures { (names all_names : List (List ℕ)) (one : OneTree) (program : CoreProgram) (number units : ℕ) (receiver : Value) (given : List Value) (world : World) (outside : Outside) →
+        Fits names one → program_of all_names one ≡ Some program → CallFits (members_of one) number receiver given world.objects →
+        Replies (call program units one_class number receiver given world outside) }
 {}
 
 /// The call of a One's `main` ends with an int, or because its units are spent, whatever their number: it throws
 /// nothing, and meets no case that evaluation doesn't have. The core program may use more names than the One.
 pub fn never_wrong()
-    ensures replies { (names all_names : List (List ℕ)) (one : OneTree) (program : Program) (main units : ℕ) →
-        Fits names one → Elaborates all_names one program → IsMain names (members_of one) main →
-        Replies (call program units one_class main Null [] []) }
-    ensures not_wrong { (names all_names : List (List ℕ)) (one : OneTree) (program : Program) (main units : ℕ) →
-        Fits names one → Elaborates all_names one program → IsMain names (members_of one) main →
-        call program units one_class main Null [] [] ≢ Wrong }
+    ensures replies { (names all_names : List (List ℕ)) (one : OneTree) (program : CoreProgram) (main units : ℕ) →
+        Fits names one → program_of all_names one ≡ Some program → IsMain names (members_of one) main →
+        Replies (call program units one_class main Null [] new_world no_outside) }
+    ensures not_wrong { (names all_names : List (List ℕ)) (one : OneTree) (program : CoreProgram) (main units : ℕ) →
+        Fits names one → program_of all_names one ≡ Some program → IsMain names (members_of one) main →
+        call program units one_class main Null [] new_world no_outside ≢ Wrong }
 {}
