@@ -1,3 +1,4 @@
 pub mod Sizes
 pub mod Replying
 pub mod Answering
+pub mod OneAnswer

@@ -2,6 +2,7 @@
 
 ghost use Rattle.std.specs.Prelude.{◌≡◌, ◌<◌, ◌^◌, ℕ, List, length, IfOk};
 ghost use Rattle.one_syntax.specs.Trees.{OneTree};
+ghost use Rattle.one_run.specs.declared.answer.Answer.{Answer as AnswerOf};
 ghost use Rattle.one_run.specs.One.{Answers, IsOneOf};
 
 use crate::answer::Answer;
@@ -38,4 +39,10 @@ pub fn answer_of(alloc: Global, bytes: &[u8]) -> Result<Answer, Memory>
 pub fn one_tree()
     ensures { (bytes : List ℕ) (names names' : List (List ℕ)) (one one' : OneTree) →
         IsOneOf bytes names one → IsOneOf bytes names' one' → (names ≡ names') × (one ≡ one') }
+{}
+
+/// A file comes to one answer: its tokens, its names, its tree, its core program and its `main` are each one, and Java's
+/// evaluation is a function.
+pub fn one_answer()
+    ensures { (bytes : List ℕ) (a b : AnswerOf) → Answers bytes a → Answers bytes b → a ≡ b }
 {}

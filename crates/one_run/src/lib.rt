@@ -13,4 +13,4 @@ mod run;
 mod tests;
 
 pub use answer::Answer;
-pub use file::{answer_of, one_tree};
+pub use file::{answer_of, one_answer, one_tree};

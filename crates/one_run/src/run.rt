@@ -2,10 +2,12 @@
 
 ghost use Rattle.std.specs.Prelude.{◌≡◌, IfOk, []};
 ghost use Rattle.je_core.specs.declared.value.Value.TheVariants.{Null};
+ghost use Rattle.je_core.specs.View.{program_view};
 ghost use Rattle.je_java.specs.Meaning.{call};
 ghost use Rattle.one_program.specs.Elaboration.{one_class};
+ghost use Rattle.one_sound.specs.Fitting.{new_world, no_outside};
 ghost use Rattle.one_sound.specs.Replies.{Replies};
-ghost use Rattle.one_run.specs.Ends.{answer_for};
+ghost use Rattle.one_run.specs.way.Ends.{answer_for};
 ghost use Rattle.one_run.specs.One.{run_units, IsAnswerTo};
 
 use crate::answer::Answer;
@@ -19,10 +21,10 @@ const RUN_UNITS: u64 = 1_000_000;
 
 /// Calls `main`, from a world without objects. It is a call that only replies or is spent.
 pub fn run_main(alloc: Global, program: &Program, main: u32) -> Result<Answer, Memory>
-    requires { Replies (call program.now run_units one_class main Null [] []) }
-    ensures { IfOk result (IsAnswerTo (call program.now run_units one_class main Null [] [])) }
+    requires { Replies (call (program_view program.now) run_units one_class main Null [] new_world no_outside) }
+    ensures { IfOk result (IsAnswerTo (call (program_view program.now) run_units one_class main Null [] new_world no_outside)) }
 {
-    let mut heap = Heap::new(alloc);
+    let mut heap = Heap::new(alloc, 0)?;
     let main = Call {
         class: ClassId(0),
         method: main,

@@ -51,3 +51,7 @@ members_height (m ∷ ms) = max (member_height m) (members_height ms)
 
 abbrev pub height : OneTree → ℕ
 height one = suc (members_height one.members)
+
+-- the greatest height of a One
+abbrev pub max_height : ℕ
+max_height = 300

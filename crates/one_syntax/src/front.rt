@@ -2,7 +2,7 @@
 ghost use Rattle.std.specs.Prelude.{◌≡◌, ℕ, ◌≤◌, List, IfOk, IfSome, IfNone};
 ghost use Rattle.one_tokens.specs.declared.token.Token.{Token};
 ghost use Rattle.one_syntax.specs.Trees.{OneTree, view_one};
-ghost use Rattle.one_syntax.specs.Height.{height};
+ghost use Rattle.one_syntax.specs.Height.{height, max_height};
 ghost use Rattle.one_syntax.specs.Grammar.{Spells};
 
 use crate::members::one;
@@ -21,10 +21,10 @@ const LEVELS_ABOVE_VALUE: u32 = 5;
 pub fn read(alloc: Global, tokens: &[Token]) -> Result<Option<One>, Memory>
     // What is given spells the tokens, and isn't too high.
     ensures spells { IfOk result (λ o. IfSome o (λ one. Spells (view_one one) tokens.now)) }
-    ensures low { IfOk result (λ o. IfSome o (λ one. height (view_one one) ≤ MAX_HEIGHT)) }
+    ensures low { IfOk result (λ o. IfSome o (λ one. height (view_one one) ≤ max_height)) }
 
     // Nothing is given only where there is no such class.
-    ensures none { IfOk result (λ o. IfNone o ((one : OneTree) → Spells one tokens.now → height one ≤ MAX_HEIGHT → ⊥)) }
+    ensures none { IfOk result (λ o. IfNone o ((one : OneTree) → Spells one tokens.now → ¬ height one ≤ max_height)) }
 {
     one(alloc, tokens, MAX_HEIGHT - LEVELS_ABOVE_VALUE)
 }

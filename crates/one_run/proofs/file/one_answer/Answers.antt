@@ -1,0 +1,5 @@
+use Rattle.one_run.proofs.OneAnswer.{one-answer}
+use Rattle.one_run.proofs.file.one_answer.Goals as goal
+
+pub returns : goal.returns
+returns c = one-answer
