@@ -14,7 +14,7 @@ use std::alloc::Global;
 pub fn tokens(alloc: Global, text: &[u8], names: &mut Names) -> Result<Option<Vec<Token>>, Memory>
     requires { length names.old + length text.now < 2 ^ 31 }
     ensures some { IfOk result (λ o. IfSome o (λ v. Lexes names.old text.now v.items names.new)) }
-    ensures none { IfOk result (λ o. IfNone o ((ts : List OneToken) (after : List (List ℕ)) → Lexes names.old text.now ts after → ⊥)) }
+    ensures none { IfOk result (λ o. IfNone o ((ts : List OneToken) (after : List (List ℕ)) → ¬ Lexes names.old text.now ts after)) }
 {
     let mut tokens = Vec::new(alloc);
     let mut rest = text;
