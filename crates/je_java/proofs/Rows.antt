@@ -1,5 +1,5 @@
 -- Worked rows: what some statements and calls come to, and what they cost.
-use Rattle.std.proofs.Common.{◌≡◌, ℕ, List, [], ◌∷◌, Some, None, refl}
+use Rattle.std.proofs.Common.{◌≡◌, ℕ, List, [], ◌∷◌, ◌++◌, replicate, Some, None, refl}
 use Rattle.std.specs.Prelude.{pos, negsuc, true, false, Bool}
 use Rattle.std.specs.Int.{int_wrap}
 use Rattle.je_core.specs.declared.object.Obj.{Obj}
@@ -18,7 +18,7 @@ use Rattle.je_core.specs.Core.{Core, CoreForm, Const, Local, This, Field, Assign
 use Rattle.je_java.specs.declared.call.Receiver.TheVariants as receiver
 use Rattle.je_java.specs.Raised.{library_class, null_pointer}
 use Rattle.je_java.specs.World.{World}
-use Rattle.je_java.specs.Steps.{State, Outside, Answer, Done, Spent, Wrong}
+use Rattle.je_java.specs.Steps.{State, Outside, Answer, Done, Thrown, Spent, Wrong}
 use Rattle.je_java.specs.Meaning.{java, meanings, call}
 use Rattle.je_java.specs.Opened.{opened}
 
@@ -206,3 +206,32 @@ starts : call (program (constructor ∷ [])) 10 receiver.Fresh (record { 0 = 0 }
     Done (Some (Ref (record { 0 = 0 }))) (after (an_object (Int (pos 0) ∷ Int (pos 0) ∷ [])) 7 1)
 unfolding java meanings opened
 starts = refl
+
+-- int f(int n) { return (n = 5) - n; }: the left operand comes first (JLS 15.7.1)
+abbrev five_first : CoreMethod
+five_first = method true int (local_of int ∷ []) (body (gives (expr (Binary Sub (expr (Assign (local 0) (constant (Int (pos 5))))) (local 0))) ∷ []))
+
+left_first : run (five_first ∷ []) (Int (pos 7) ∷ []) ≡ Done (Some (Int (pos 0))) (after [] 999994 6)
+unfolding java meanings opened int_wrap
+left_first = refl
+
+-- a call a.g(a = 1, 2), whose first argument changes the local that is the receiver: the receiver comes first
+-- (JLS 15.12.4.1)
+abbrev forgets : CoreMethod
+forgets = method true int (local_of class_a ∷ []) (body (gives (expr (CallVirtual (local 0) (record { 0 = 0 }) 1 (cores (expr (Assign (local 0) (constant (Int (pos 1)))) ∷ constant (Int (pos 2)) ∷ [])))) ∷ []))
+
+receiver_first : call (program (forgets ∷ called ∷ [])) 1000000 receiver.None (record { 0 = 0 }) 0 (Ref (record { 0 = 0 }) ∷ []) (world (an_object (Int (pos 5) ∷ Int (pos 7) ∷ []))) nothing ≡
+    Done (Some (Int (negsuc 0))) (after (an_object (Int (pos 5) ∷ Int (pos 1) ∷ [])) 999983 17)
+unfolding java meanings opened int_wrap
+receiver_first = refl
+
+-- a class without members
+abbrev empty : CoreClass
+empty = record (class_of_methods []) { fields = [] }
+
+-- the same program with as many classes that the last is NullPointerException: its caller's variables are back (the
+-- caller of a whole call has none), and the exception is the one new object
+throws_on_null : call (record { classes = (program (caller (local 0) ∷ called ∷ [])).classes ++ replicate 34 empty; texts = [] }) 1000000 receiver.None (record { 0 = 0 }) 0 (Null ∷ []) (world []) nothing ≡
+    Thrown (record { 0 = 0 }) (after (Instance (record { 0 = 34 }) [] ∷ []) 999994 6)
+unfolding java meanings opened null_pointer library_class
+throws_on_null = refl
