@@ -15,7 +15,7 @@ use je_core::{Expr, Memory, Program, Stmt};
 use je_heap::Heap;
 use std::rc::Rc;
 
-// Takes the unit of an expression, and begins it.
+/// Takes the unit of an expression, and begins it.
 pub fn eval(
     context: &mut Context,
     heap: &mut Heap,
@@ -34,7 +34,7 @@ pub fn eval(
     begin_expr(context, heap, program, node)
 }
 
-// Takes the unit of a statement, and begins it.
+/// Takes the unit of a statement, and begins it.
 pub fn exec(
     context: &mut Context,
     program: &Program,

@@ -44,7 +44,7 @@ impl Reply {
     }
 }
 
-// The variables of the caller of the whole call, who has none.
+/// The variables of the caller of the whole call, who has none.
 pub fn nobody(alloc: Global) -> Env
     ensures this { result.this ≡ Null }
     ensures locals { result.locals ≡ [] }
