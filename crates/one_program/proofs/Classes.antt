@@ -8,13 +8,13 @@ use Rattle.je_core.specs.declared.program.Class.{Class}
 use Rattle.je_core.specs.declared.program.Field.{Field}
 use Rattle.je_core.specs.declared.program.Method.{Method}
 use Rattle.je_core.specs.declared.program.Program.{Program}
-use Rattle.je_core.specs.Core.{CoreMethod, CoreProgram}
-use Rattle.je_core.specs.View.{method_view, program_view}
+use Rattle.je_core.specs.Core.{CoreField, CoreMethod, CoreProgram}
+use Rattle.je_core.specs.View.{field_view, method_view, class_view, program_view}
 use Rattle.je_base.specs.declared.span.NameId.{NameId}
 use Rattle.one_syntax.specs.Trees.{ExprTree, StatementTree, MemberTree, OneTree, field, method}
 use Rattle.one_program.specs.Scope.{Members, Head, head_names, members_of, fields_of}
 use Rattle.one_program.specs.Conditions.{MemberFits, MembersFit, is_word, java_lang}
-use Rattle.one_program.specs.Elaboration.{◌>>=◌, nowhere, core_method, methods_of, default_constructor, int_field, program_with, program_of}
+use Rattle.one_program.specs.Elaboration.{◌>>=◌, core_method, methods_of, default_constructor, int_field, class_with, program_with, program_of}
 use Rattle.one_program.specs.Sizes.{declarations}
 use Rattle.one_program.specs.way.Built.{HeadsFit, method_views, AddsMethod}
 
@@ -49,20 +49,20 @@ method-added members is_static x params body result before after made e is = rec
 }
 
 -- the program of one class in memory
-pub program-seen : (x new : NameId) (fields : List Field) (methods : List Method) (constructor : Method) (class : Class) (program : Program) → class.name ≡ x → class.span ≡ nowhere →
-    class.superclass ≡ None → class.fields.items ≡ fields → class.methods.items ≡ methods ++ constructor ∷ [] → method_view constructor ≡ default_constructor new →
-    program.classes.items ≡ class ∷ [] → program.texts.items ≡ [] → program_view program ≡ program_with x fields (method_views methods) new
+pub program-seen : (x new : NameId) (fields : List Field) (methods : List Method) (constructor : Method) (class : Class) (program : Program) →
+    class_view class ≡ class_with x (map field_view fields) (map method_view class.methods.items) → class.methods.items ≡ methods ++ constructor ∷ [] → method_view constructor ≡ default_constructor new →
+    program.classes.items ≡ class ∷ [] → program.texts.items ≡ [] → program_view program ≡ program_with x (map field_view fields) (method_views methods) new
 unfolding program_view
-program-seen x new fields methods constructor class program named spanned superclass fields_are methods_are made classes texts =
-    rw (classes, texts, named, spanned, superclass, fields_are, methods_are, map-append method_view methods (constructor ∷ []), made) refl
+program-seen x new fields methods constructor class program seen methods_are made classes texts =
+    rw (classes, texts, seen, methods_are, map-append method_view methods (constructor ∷ []), made) refl
 
 -- the program of a One, from the parts that the code makes
-pub program-made : (names : List (List ℕ)) (one : OneTree) (fields : List Field) (methods : List CoreMethod) (program : CoreProgram) → methods_of (members_of one) one.members ≡ Some methods →
+pub program-made : (names : List (List ℕ)) (one : OneTree) (fields : List CoreField) (methods : List CoreMethod) (program : CoreProgram) → methods_of (members_of one) one.members ≡ Some methods →
     fields ≡ map int_field (fields_of one.members) → option_map (program_with one.name fields methods) (number_of names (codes "new")) ≡ Some program → program_of names one ≡ Some program
 program-made names one fields methods program m f p =
-    let with = λ (fs : List Field) (o : Option NameId). o >>= λ new. Some (program_with one.name fs methods new) in
+    let with = λ (fs : List CoreField) (o : Option NameId). o >>= λ new. Some (program_with one.name fs methods new) in
     ap (λ o. o >>= λ (ms : List CoreMethod). number_of names (codes "new") >>= λ new. Some (program_with one.name (map int_field (fields_of one.members)) ms new)) m
-    ∙ ap (λ (fs : List Field). with fs (number_of names (codes "new"))) (sym f) ∙ by (number_of names (codes "new")) ∙ p
+    ∙ ap (λ (fs : List CoreField). with fs (number_of names (codes "new"))) (sym f) ∙ by (number_of names (codes "new")) ∙ p
   where
     by : (o : Option NameId) → (o >>= λ new. Some (program_with one.name fields methods new)) ≡ option_map (program_with one.name fields methods) o
     by None = refl

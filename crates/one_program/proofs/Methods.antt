@@ -1,5 +1,5 @@
 -- The parts of a method, so far and still to come.
-use Rattle.std.proofs.Common.{◌≡◌, ◌∙◌, ℕ, suc, ◌+◌, ◌-◌, ◌<◌, List, ◌∷◌, length, map, refl, Bool, Some, sym, ap, arith}
+use Rattle.std.proofs.Common.{◌≡◌, ◌∙◌, ℕ, suc, ◌+◌, ◌-◌, ◌<◌, List, [], ◌∷◌, length, map, refl, Bool, Some, sym, ap, arith}
 use Rattle.je_base.specs.declared.span.NameId.{NameId}
 use Rattle.je_core.specs.declared.program.Local.{Local}
 use Rattle.je_core.specs.declared.types.Ty.{Ty}
@@ -8,7 +8,7 @@ use Rattle.je_core.specs.View.{stmt_views}
 use Rattle.one_syntax.specs.Trees.{StatementTree, ExprTree}
 use Rattle.one_program.specs.declared.body.MadeBody.{MadeBody}
 use Rattle.one_program.specs.Scope.{Variable, Members, scope_of}
-use Rattle.one_program.specs.Elaboration.{◌>>=◌, nowhere, int_type, declared, block, numbers_from, body_of, locals_of, method_with, core_method}
+use Rattle.one_program.specs.Elaboration.{◌>>=◌, nowhere, flags_of, int_type, declared, block, numbers_from, body_of, locals_of, method_with, core_method}
 use Rattle.one_program.specs.way.Bodies.{IsMadeBody}
 
 abbrev pub method_of_parts : Bool → NameId → List Ty → List Local → CoreStmt → CoreMethod
@@ -17,7 +17,8 @@ method_of_parts is_static x types locals body = record {
   span = nowhere;
   params = types;
   returns = int_type;
-  flags = record { is_static = is_static };
+  flags = flags_of is_static;
+  throws = [];
   locals = locals;
   body = Some body;
 }

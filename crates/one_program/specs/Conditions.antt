@@ -4,6 +4,8 @@ use Rattle.std.specs.List.{list_any}
 use Rattle.std.specs.Str.{bytes_eq}
 use Rattle.je_base.specs.declared.span.NameId.{NameId}
 use Rattle.je_base.specs.Names.{text_of}
+use Rattle.je_core.specs.declared.expr.BinOp.{BinOp}
+use Rattle.je_core.specs.declared.expr.BinOp.TheVariants.{Mul, Add, Sub}
 use Rattle.one_syntax.specs.Trees.{ExprTree, decimal, name, call, brackets, binary, ExprTrees, none, more, StatementTree, declare, make, assign, perform, MemberTree, field, method, OneTree}
 pub use Rattle.one_program.specs.Names.{IsNot, AreDistinct}
 use Rattle.one_program.specs.Scope.{Scope, Members, object, local_of, field_of, method_of, members_of, fields_of, scope_of, after, inside, names_of, head_names}
@@ -39,13 +41,20 @@ NamesMethod scope (Some receiver) x arity = IsObjectName scope receiver × ((num
 abbrev pub greatest_int : ℕ
 greatest_int = 2147483647
 
+-- the operators of a One (JLS 15.17.1, 15.18.2); its grammar spells no other
+abbrev pub is_operator : BinOp → Bool
+is_operator Mul = true
+is_operator Add = true
+is_operator Sub = true
+is_operator _ = false
+
 abbrev mutual
   pub ExprFits : Scope → ExprTree → Type 0
   ExprFits scope (decimal v) = v ≤ greatest_int
   ExprFits scope (name x) = IsIntName scope x
   ExprFits scope (call receiver x args) = NamesMethod scope receiver x (count args) × ArgsFit scope args
   ExprFits scope (brackets e) = ExprFits scope e
-  ExprFits scope (binary op l r) = ExprFits scope l × ExprFits scope r
+  ExprFits scope (binary op l r) = (is_operator op ≡ true) × (ExprFits scope l × ExprFits scope r)
 
   pub ArgsFit : Scope → ExprTrees → Type 0
   ArgsFit scope none = Unit {0}

@@ -4,9 +4,9 @@ use Rattle.je_core.specs.declared.expr.BinOp.{BinOp}
 use Rattle.je_java.specs.Steps.{operate}
 use Rattle.one_syntax.specs.Trees.{ExprTree, decimal, name, call, brackets, binary}
 
--- the value of two operands that have values
+-- the value of an operator on two operands that have values
 abbrev pub folded : BinOp → Option ℤ → Option ℤ → Option ℤ
-folded op (Some x) (Some y) = Some (operate op x y)
+folded op (Some x) (Some y) = operate op x y
 folded op (Some x) None = None
 folded op None y = None
 

@@ -6,13 +6,16 @@ use Rattle.je_base.specs.declared.span.NameId.{NameId}
 use Rattle.je_base.specs.declared.span.Span.{Span}
 use Rattle.je_base.specs.Names.{number_of}
 use Rattle.je_core.specs.declared.expr.BinOp.{BinOp}
-use Rattle.je_core.specs.declared.program.Field.{Field as FieldOf}
+use Rattle.je_core.specs.declared.program.Access.TheVariants as access
+use Rattle.je_core.specs.declared.program.Flags.{Flags}
+use Rattle.je_core.specs.declared.program.Kind.{Kind}
 use Rattle.je_core.specs.declared.program.Local.{Local as LocalOf}
+use Rattle.je_core.specs.declared.program.Sort.TheVariants as sort
 use Rattle.je_core.specs.declared.types.Base.TheVariants as base
 use Rattle.je_core.specs.declared.types.ClassId.{ClassId}
 use Rattle.je_core.specs.declared.types.Ty.{Ty}
 use Rattle.je_core.specs.declared.value.Value.TheVariants.{Int}
-use Rattle.je_core.specs.Core.{Core, CoreForm, Const, Local, This, Field, Assign, Binary, CallVirtual, CallExact, New, CoreStmt, CoreStmtForm, Block, Do, Return, CoreMethod, CoreProgram, node, stmt, cores, no_core, core_stmts}
+use Rattle.je_core.specs.Core.{Core, CoreForm, Const, Local, This, Field, Assign, Binary, CallVirtual, CallExact, New, CoreStmt, CoreStmtForm, Block, Do, Return, CoreField, CoreMethod, CoreClass, CoreProgram, node, stmt, cores, no_core, core_stmts}
 use Rattle.one_syntax.specs.Trees.{ExprTree, decimal, name, call, brackets, binary, ExprTrees, none, more, StatementTree, declare, make, assign, perform, MemberTree, field, method, OneTree}
 use Rattle.one_program.specs.Scope.{Scope, Members, Variable, Sort, int, object, local_of, field_of, method_of, members_of, fields_of, scope_of, after, inside}
 use Rattle.one_program.specs.Constants.{constant_of}
@@ -135,9 +138,9 @@ stores ty place value = does (expr ty (Assign place value))
 abbrev pub next_local : Scope → Ty → Core
 next_local scope ty = local ty (length scope.locals)
 
--- a new object, made by the constructor, which stands behind the declared methods
+-- a new object, made by the constructor, which stands behind the declared methods; it has no hidden field
 abbrev pub new_object : Members → Core
-new_object members = expr class_type (New one_class (length members.methods) (cores []))
+new_object members = expr class_type (New one_class (length members.methods) (cores []) [] nowhere)
 
 -- the node that a statement comes to
 abbrev pub statement_of : Scope → StatementTree → Option CoreStmt
@@ -184,6 +187,10 @@ numbers_from from (suc n) = from ∷ numbers_from (from + 1) n
 abbrev pub block : List ℕ → List CoreStmt → CoreStmt
 block locals parts = statement (Block locals (core_stmts parts))
 
+-- a method without modifiers but `static`; none is named `finalize`
+abbrev pub flags_of : Bool → Flags
+flags_of is_static = record { is_static = is_static; is_final = false; is_abstract = false; is_native = false; is_finalizer = false; access = access.Package }
+
 -- the core method with these parameters and locals, the parameters first, and the nodes of its body, which declares the other locals
 abbrev pub method_with : Bool → NameId → List NameId → List Variable → List CoreStmt → CoreMethod
 method_with is_static x params locals parts = record {
@@ -191,7 +198,8 @@ method_with is_static x params locals parts = record {
   span = nowhere;
   params = map (λ p. int_type) params;
   returns = int_type;
-  flags = record { is_static = is_static };
+  flags = flags_of is_static;
+  throws = [];
   locals = map declared locals;
   body = Some (block (numbers_from (length params) (length locals - length params)) parts);
 }
@@ -212,15 +220,39 @@ methods_of members (method is_static x params body result ∷ ms) = do
 
 -- the constructor of a class that declares none: its body is an empty block
 abbrev pub default_constructor : NameId → CoreMethod
-default_constructor new = record { name = new; span = nowhere; params = []; returns = void_type; flags = record { is_static = false }; locals = []; body = Some (block [] []) }
+default_constructor new = record { name = new; span = nowhere; params = []; returns = void_type; flags = flags_of false; throws = []; locals = []; body = Some (block [] []) }
 
-abbrev pub int_field : NameId → FieldOf
-int_field x = record { name = x; span = nowhere; ty = int_type; is_static = false }
+abbrev pub int_field : NameId → CoreField
+int_field x = record { name = x; span = nowhere; ty = int_type; is_static = false; is_final = false; access = access.Package; constant = None }
+
+-- a top-level class without modifiers
+abbrev pub plain_class : Kind
+plain_class = record { sort = sort.Class; is_abstract = false; is_final = false; is_static = false }
+
+-- the class of these fields and methods, which names no other class
+abbrev pub class_with : NameId → List CoreField → List CoreMethod → CoreClass
+class_with x fields methods = record {
+  name = x;
+  span = nowhere;
+  kind = plain_class;
+  superclass = None;
+  interfaces = [];
+  heads = [];
+  fields = fields;
+  initializers = [];
+  methods = methods;
+  enclosing = None;
+  captured = 0;
+  within = None;
+  nth = 0;
+  top = one_class;
+  bridges = [];
+}
 
 -- the program of one class with these fields and methods, behind which its constructor stands
-abbrev pub program_with : NameId → List FieldOf → List CoreMethod → NameId → CoreProgram
+abbrev pub program_with : NameId → List CoreField → List CoreMethod → NameId → CoreProgram
 program_with x fields methods new = record {
-  classes = record { name = x; span = nowhere; superclass = None; fields = fields; methods = methods ++ default_constructor new ∷ [] } ∷ [];
+  classes = class_with x fields (methods ++ default_constructor new ∷ []) ∷ [];
   texts = [];
 }
 

@@ -3,7 +3,7 @@
 ghost use Rattle.std.specs.Prelude.{◌≡◌, ℕ, ◌<◌, ◌≤◌, ◌^◌, List, [], codes, true, Some, slice_get, map, length, option_map, IsTrue, OnOk, OnErr, IfOk, IfSome, OnSome, IfNone};
 ghost use Rattle.std.specs.Bool.{OnTrue, OnFalse};
 ghost use Rattle.je_base.specs.Names.{interned, number_of};
-ghost use Rattle.je_core.specs.View.{stmt_view, method_view, program_view};
+ghost use Rattle.je_core.specs.View.{stmt_view, field_view, method_view, program_view};
 ghost use Rattle.one_syntax.specs.Trees.{view_member};
 ghost use Rattle.one_program.specs.Scope.{fields_of, heads_of};
 ghost use Rattle.one_program.specs.Conditions.{MemberFits, MembersFit, IsMain};
@@ -16,10 +16,18 @@ use crate::names::are_distinct;
 use crate::nodes;
 use crate::scope::{Head, Members};
 use crate::words::is_java_lang;
-use je_core::{Class, Field, Flags, Memory, Method, NameId, Names, Program, Stmt};
+use je_core::{Access, Class, Field, Kind, Memory, Method, NameId, Names, Program, Sort, Stmt};
 use one_syntax::Member;
 use std::alloc::Global;
 use std::rc::Rc;
+
+/// A top-level class without modifiers.
+const PLAIN_CLASS: Kind = Kind {
+    sort: Sort::Class,
+    is_abstract: false,
+    is_final: false,
+    is_static: false,
+};
 
 /// The names of the fields among the members.
 pub fn field_names(alloc: Global, members: &[Member]) -> Result<Vec<NameId>, Memory>
@@ -148,7 +156,7 @@ fn add_method(
 
 /// The declarations of int fields.
 pub fn fields(alloc: Global, names: &[NameId]) -> Result<Vec<Field>, Memory>
-    ensures { IfOk result (λ fields. fields.items ≡ map int_field names.now) }
+    ensures { IfOk result (λ fields. map field_view fields.items ≡ map int_field names.now) }
 {
     let mut fields = Vec::new(alloc);
     for name in names {
@@ -158,13 +166,16 @@ pub fn fields(alloc: Global, names: &[NameId]) -> Result<Vec<Field>, Memory>
 }
 
 fn field(name: NameId) -> Field
-    ensures { result ≡ int_field name }
+    ensures { field_view result ≡ int_field name }
 {
     Field {
         name,
         span: nodes::NOWHERE,
         ty: nodes::INT,
         is_static: false,
+        is_final: false,
+        access: Access::Package,
+        constant: None,
     }
 }
 
@@ -177,7 +188,7 @@ pub fn one_class(
     names: &mut Names,
 ) -> Result<Program, Memory>
     requires { length names.old < 2 ^ 31 }
-    ensures is { IfOk result (λ program. option_map (program_with name fields.items (method_views methods.items)) (number_of names.new (codes "new")) ≡ Some (program_view program)) }
+    ensures is { IfOk result (λ program. option_map (program_with name (map field_view fields.items) (method_views methods.items)) (number_of names.new (codes "new")) ≡ Some (program_view program)) }
     ensures names { OnOk result (names.new ≡ interned names.old (codes "new")) }
     ensures err { OnErr result (names.new ≡ names.old) }
 {
@@ -190,9 +201,19 @@ pub fn one_class(
     let _ = classes.push(Class {
         name,
         span: nodes::NOWHERE,
+        kind: PLAIN_CLASS,
         superclass: None,
+        interfaces: Vec::new(alloc),
+        heads: Vec::new(alloc),
         fields,
+        initializers: Vec::new(alloc),
         methods,
+        enclosing: None,
+        captured: 0,
+        within: None,
+        nth: 0,
+        top: nodes::ONE_CLASS,
+        bridges: Vec::new(alloc),
     });
     Ok(Program {
         classes,
@@ -210,7 +231,8 @@ fn default_constructor(alloc: Global, name: NameId, body: Rc<Stmt>) -> Method
         span: nodes::NOWHERE,
         params: Vec::new(alloc),
         returns: nodes::VOID,
-        flags: Flags { is_static: false },
+        flags: nodes::flags(false),
+        throws: Vec::new(alloc),
         locals: Vec::new(alloc),
         body: Some(body),
     }

@@ -5,9 +5,9 @@ ghost use Rattle.je_core.specs.View.{view, views};
 ghost use Rattle.je_java.specs.Steps.{operate};
 ghost use Rattle.one_syntax.specs.Trees.{view_expr, view_exprs, call, decimal, name as name_tree};
 ghost use Rattle.one_program.specs.Scope.{Scope};
-ghost use Rattle.one_program.specs.Conditions.{ExprFits, ArgsFit, IsIntName, greatest_int};
+ghost use Rattle.one_program.specs.Conditions.{ExprFits, ArgsFit, IsIntName, greatest_int, is_operator};
 ghost use Rattle.one_program.specs.Elaboration.{core_of, cores_of};
-ghost use Rattle.one_program.specs.way.Elaborated.{IsElaborated, IsJoined, IsOperation, node_of as the_node_of, place_node as the_place_node, call_node as the_call_node};
+ghost use Rattle.one_program.specs.way.Elaborated.{IsElaborated, IsFolded, IsJoined, IsOperation, node_of as the_node_of, place_node as the_place_node, call_node as the_call_node};
 
 use crate::nodes;
 use crate::scope::{Callee, Place, Scope};
@@ -43,6 +43,9 @@ fn elaborate(alloc: Global, scope: &Scope<'_>, tree: &Expr) -> Result<Option<Ela
         },
         Expr::Brackets { inner } => elaborate(alloc, scope, inner),
         Expr::Binary { op, left, right } => {
+            if !is_operator(*op) {
+                return Ok(None);
+            }
             let Some(left) = elaborate(alloc, scope, left)? else {
                 return Ok(None);
             };
@@ -160,8 +163,22 @@ fn joined(
         Elaborated::Node(left) => operation(alloc, op, left, node_of(alloc, right)),
         Elaborated::Constant(x) => match right {
             Elaborated::Node(right) => operation(alloc, op, nodes::constant(alloc, x), right),
-            Elaborated::Constant(y) => Ok(Elaborated::Constant(folded(op, x, y))),
+            Elaborated::Constant(y) => constants(alloc, op, x, y),
         },
+    }
+}
+
+fn constants(alloc: Global, op: BinOp, x: i32, y: i32) -> Result<Elaborated, Memory>
+    ensures { IfOk result (IsFolded op x y (operate op x y)) }
+{
+    match folded(op, x, y) {
+        Some(value) => Ok(Elaborated::Constant(value)),
+        None => operation(
+            alloc,
+            op,
+            nodes::constant(alloc, x),
+            nodes::constant(alloc, y),
+        ),
     }
 }
 
@@ -176,14 +193,25 @@ fn operation(
     Ok(Elaborated::Node(nodes::binary(alloc, op, left, right)?))
 }
 
+/// Whether a One has the operator.
+fn is_operator(op: BinOp) -> bool
+    ensures { result ≡ is_operator op }
+{
+    match op {
+        BinOp::Mul | BinOp::Add | BinOp::Sub => true,
+        _ => false,
+    }
+}
+
 /// The value of an operator on two constants (JLS 15.17.1, 15.18.2).
-fn folded(op: BinOp, x: i32, y: i32) -> i32
+fn folded(op: BinOp, x: i32, y: i32) -> Option<i32>
     ensures { result ≡ operate op x y }
 {
     match op {
-        BinOp::Mul => x.wrapping_mul(y),
-        BinOp::Add => x.wrapping_add(y),
-        BinOp::Sub => x.wrapping_sub(y),
+        BinOp::Mul => Some(x.wrapping_mul(y)),
+        BinOp::Add => Some(x.wrapping_add(y)),
+        BinOp::Sub => Some(x.wrapping_sub(y)),
+        _ => None,
     }
 }
 

@@ -11,7 +11,7 @@ use crate::names::are_distinct;
 use crate::nodes;
 use crate::scope::{Head, Members, Sort, Variable};
 use crate::words::is_object_method;
-use je_core::{Flags, Local, Memory, Method, NameId, Names, Ty};
+use je_core::{Local, Memory, Method, NameId, Names, Ty};
 use one_syntax::{Expr, Statement};
 use std::alloc::Global;
 use std::rc::Rc;
@@ -61,9 +61,8 @@ fn method_of(alloc: Global, head: Head, params: &[NameId], body: MadeBody) -> Re
         span: nodes::NOWHERE,
         params: int_types(alloc, params)?,
         returns: nodes::INT,
-        flags: Flags {
-            is_static: head.is_static,
-        },
+        flags: nodes::flags(head.is_static),
+        throws: Vec::new(alloc),
         locals,
         body: Some(Rc::new(alloc, block)?),
     })

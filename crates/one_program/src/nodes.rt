@@ -2,13 +2,13 @@
 
 ghost use Rattle.std.specs.Prelude.{◌≡◌, IfOk};
 ghost use Rattle.je_core.specs.View.{view, views, stmt_view, stmt_views};
-ghost use Rattle.one_program.specs.Elaboration.{constant as the_constant, this as the_this, local as the_local, own_field as the_own_field, operation, static_call as the_static_call, instance_call as the_instance_call, new_object as the_new_object, stores, does, returns, block as the_block};
+ghost use Rattle.one_program.specs.Elaboration.{constant as the_constant, this as the_this, local as the_local, own_field as the_own_field, operation, static_call as the_static_call, instance_call as the_instance_call, new_object as the_new_object, stores, does, returns, block as the_block, flags_of};
 
 use crate::scope::Members;
 use je_core::{
-    Base, BinOp, ClassId, Expr, Mark, Memory, Span, Stmt, Ty, Value, make_assign, make_binary,
-    make_block, make_call_virtual, make_const, make_do, make_field, make_local, make_new,
-    make_return, make_static_call, make_this,
+    Access, Base, BinOp, ClassId, Expr, Flags, Mark, Memory, Span, Stmt, Ty, Value, make_assign,
+    make_binary, make_block, make_call_virtual, make_const, make_do, make_field, make_local,
+    make_new, make_return, make_static_call, make_this,
 };
 use std::alloc::Global;
 use std::rc::Rc;
@@ -40,6 +40,20 @@ pub const NOWHERE: Span = Span {
     start: 0,
     end: 0,
 };
+
+/// What the head of a method without modifiers but `static` says.
+pub fn flags(is_static: bool) -> Flags
+    ensures { result ≡ flags_of is_static }
+{
+    Flags {
+        is_static,
+        is_final: false,
+        is_abstract: false,
+        is_native: false,
+        is_finalizer: false,
+        access: Access::Package,
+    }
+}
 
 fn mark(ty: Ty) -> Mark
     ensures { result ≡ record { ty = ty; span = record { file = 0; start = 0; end = 0 }; at = record { file = 0; start = 0; end = 0 } } }
@@ -110,7 +124,14 @@ pub fn new_object(alloc: Global, members: &Members) -> Expr
     ensures { view result ≡ the_new_object members.now }
 {
     let constructor = members.methods.len() as u32;
-    make_new(mark(OBJECT), ONE_CLASS, constructor, Vec::new(alloc))
+    make_new(
+        mark(OBJECT),
+        ONE_CLASS,
+        constructor,
+        Vec::new(alloc),
+        Vec::new(alloc),
+        NOWHERE,
+    )
 }
 
 /// An expression whose value is dropped.
@@ -132,7 +153,7 @@ pub fn store(alloc: Global, ty: Ty, place: Expr, value: Expr) -> Result<Stmt, Me
 pub fn give_back(alloc: Global, value: Expr) -> Result<Stmt, Memory>
     ensures { IfOk result (λ node. stmt_view node ≡ returns (view value)) }
 {
-    make_return(alloc, NOWHERE, NOWHERE, value)
+    make_return(alloc, NOWHERE, NOWHERE, Some(value))
 }
 
 /// A block that declares these locals.

@@ -1,5 +1,5 @@
 -- What the code makes of an expression: its value where it is constant, else its node.
-use Rattle.std.specs.Prelude.{◌≡◌, ℕ, List, [], ◌∷◌, ◌++◌, Option, Some, None}
+use Rattle.std.specs.Prelude.{◌≡◌, ℕ, ℤ, List, [], ◌∷◌, ◌++◌, Option, Some, None}
 use Rattle.je_core.specs.declared.expr.BinOp.{BinOp}
 use Rattle.je_core.specs.Core.{Core}
 use Rattle.je_core.specs.View.{view}
@@ -29,9 +29,14 @@ abbrev pub IsOperation : BinOp → Core → Core → Elaborated → Type 0
 IsOperation op left right (Constant value) = ⊥
 IsOperation op left right (Node node) = view node ≡ operation op left right
 
+-- the value of an operator, or its node where it has none
+abbrev pub IsFolded : BinOp → ℤ → ℤ → Option ℤ → Elaborated → Type 0
+IsFolded op x y (Some value) made = made ≡ Constant value
+IsFolded op x y None made = IsOperation op (constant x) (constant y) made
+
 -- an operator on two constants is a constant, else a node
 abbrev pub IsJoined : BinOp → Elaborated → Elaborated → Elaborated → Type 0
-IsJoined op (Constant x) (Constant y) made = made ≡ Constant (operate op x y)
+IsJoined op (Constant x) (Constant y) made = IsFolded op x y (operate op x y) made
 IsJoined op (Constant x) (Node right) made = IsOperation op (constant x) (view right) made
 IsJoined op (Node left) operand made = IsOperation op (view left) (node_of operand) made
 
