@@ -1,18 +1,20 @@
 -- What holds of the states of a One while it runs, and that the steps keep it.
-use Rattle.std.proofs.Common.{◌≡◌, ℕ, suc, ◌<◌, ◌≤◌, List, [], ◌∷◌, ◌++◌, length, get_or, map, drop, Some, sym, subst, arith, length-append, length-drop}
-use Rattle.std.specs.Prelude.{Bool, false, slice_get}
+use Rattle.std.proofs.Common.{◌≡◌, ℕ, suc, ◌<◌, ◌≤◌, List, [], ◌∷◌, ◌++◌, length, get_or, map, drop, Some, refl, sym, subst, arith, length-append, length-drop}
+use Rattle.std.specs.Prelude.{ℤ, Bool, true, false, slice_get}
 use Rattle.std.proofs.lemmas.List.{length-map, length-set}
 use Rattle.std.proofs.lemmas.List.Elements.{All-head, All-tail}
 use Rattle.std.proofs.lemmas.Option.{slice_get-get_or}
 use Rattle.je_core.specs.Defaults.{default_of}
 use Rattle.je_core.specs.declared.expr.BinOp.{BinOp}
+use Rattle.je_core.specs.declared.expr.BinOp.TheVariants.{Mul, Add, Sub}
 use Rattle.je_core.specs.declared.program.Local.{Local}
 use Rattle.je_core.specs.Core.{CoreMethod, CoreProgram}
 use Rattle.je_base.specs.declared.span.NameId.{NameId}
 use Rattle.je_core.specs.declared.value.Value.{Value}
 use Rattle.je_core.specs.declared.value.Value.TheVariants.{Int, Null, Ref}
 use Rattle.je_java.specs.Classes.{field_slot, fresh_slots, locals_for}
-use Rattle.je_java.specs.Steps.{Own, Computation, get_this, get_local, put_local, make, binary, read_field, write_field}
+use Rattle.je_java.specs.Steps.{Own, Computation, get_this, get_local, put_local, make, operate, binary, read_field, write_field}
+use Rattle.one_program.specs.Conditions.{is_operator}
 use Rattle.one_program.specs.Elaboration.{one_class}
 use Rattle.one_program.specs.declared.scope.Sort.TheVariants.{Int as int, Object as object}
 use Rattle.one_program.specs.declared.scope.Variable.{Variable}
@@ -50,6 +52,13 @@ invariant fields = record {
 abbrev pub Keeps : (fields : ℕ) {A : Type 0} → ℕ → Context → Context → (ℕ → A → Type 0) → Computation A → Type 0
 Keeps fields t c d Q m = Safe (invariant fields) (Holds int) t c d Q m
 
+-- an operator of a One has a value for any two ints
+operates : (op : BinOp) → is_operator op ≡ true → (x y : ℤ) → (z : ℤ) × (operate op x y ≡ Some z)
+operates Mul f x y = (_, refl)
+operates Add f x y = (_, refl)
+operates Sub f x y = (_, refl)
+operates _ f x y = absurd (cc)
+
 module _ {fields : ℕ} {t : ℕ} {c : Context} where
   pub keeps-this : c.is_static ≡ false → Keeps fields t c c (Holds object) get_this
   keeps-this e = safe-get_this λ own q. q.this e
@@ -66,9 +75,9 @@ module _ {fields : ℕ} {t : ℕ} {c : Context} where
       (old.0, old.1, record { this = q.this; locals = LocalsFit-set at q.locals e r; room = rw length-set q.room }))
       r
 
-  pub keeps-binary : {a b : Value} (op : BinOp) → Holds int t a → Holds int t b →
+  pub keeps-binary : {a b : Value} (op : BinOp) → is_operator op ≡ true → Holds int t a → Holds int t b →
       Keeps fields t c c (Holds int) (binary op a b)
-  keeps-binary op (an_int {x = x}) (an_int {x = y}) = safe-binary op x y an_int
+  keeps-binary op f (an_int {x = x}) (an_int {x = y}) = let found = operates op f x y in safe-binary op x y found.1 an_int
 
   pub keeps-read_field : {value : Value} (program : CoreProgram) (number : ℕ) →
       field_slot program one_class number ≡ Some number → number < fields → Holds object t value →

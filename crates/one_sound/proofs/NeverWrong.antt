@@ -1,54 +1,76 @@
 -- A call that fits of a method of a One replies, and so does that of its main.
-use Rattle.std.proofs.Common.{◌≡◌, ℕ, List, [], length, refl}
-use Rattle.std.specs.Prelude.{◌≢◌, ℤ, Bool, true, false, Some, slice_get}
+use Rattle.std.proofs.Common.{◌≡◌, ℕ, List, [], length, refl, arith}
+use Rattle.std.specs.Prelude.{◌≢◌, ℤ, Bool, true, false, Option, Some, slice_get}
 use Rattle.std.proofs.lemmas.List.Elements.{All-nil}
 use Rattle.je_core.specs.Core.{CoreProgram}
+use Rattle.je_base.specs.declared.span.NameId.{NameId}
 use Rattle.je_core.specs.declared.value.ObjId.{ObjId}
 use Rattle.je_core.specs.declared.value.Value.{Value}
-use Rattle.je_core.specs.declared.value.Value.TheVariants.{Int, Null}
+use Rattle.je_core.specs.declared.value.Value.TheVariants.{Int, Null, Ref}
+use Rattle.je_java.specs.declared.call.Receiver.{Receiver}
+use Rattle.je_java.specs.declared.call.Receiver.TheVariants as receiver
 use Rattle.je_java.specs.World.{World}
-use Rattle.je_java.specs.Steps.{State, Outside, Answer, Done, Thrown, Wrong}
-use Rattle.je_java.specs.Meaning.{java, call, call_method, ends, state_at}
+use Rattle.je_java.specs.Steps.{State, Outside, Computation, Answer, Done, Thrown, Wrong}
+use Rattle.je_java.specs.Meaning.{java, call, call_by, replied, ends, state_at}
 use Rattle.one_syntax.specs.Trees.{OneTree}
 use Rattle.one_program.specs.Conditions.{Fits, IsMain}
 use Rattle.one_program.specs.Elaboration.{one_class, program_of}
 use Rattle.one_program.specs.declared.scope.Sort.TheVariants.{Int as int, Object as object}
-use Rattle.one_program.specs.declared.scope.Head.{Head}
 use Rattle.one_program.specs.Scope.{Members, members_of}
 use Rattle.one_sound.specs.Fitting.{new_world, no_outside, IsReceiver, of_static, of_instance, CallFits}
 use Rattle.one_sound.specs.Replies.{Replies, an_int, units_spent}
-use Rattle.one_sound.proofs.Kept.{Keeps}
+use Rattle.one_sound.proofs.Kept.{invariant}
 use Rattle.one_sound.proofs.Program.{program-typed}
-use Rattle.one_sound.proofs.Safe.{safe-need}
+use Rattle.one_sound.proofs.Safe.{Safe, safe-need, safe-bind, safe-ret, safe-get_class}
 use Rattle.one_sound.proofs.Sound.{java_keeps, keeps-method}
 use Rattle.one_sound.proofs.Typing.{Context, ProgramTyped}
-use Rattle.one_sound.proofs.Values.{IsInt, Ints, IsOwnObject, Holds, an_object, no_more}
+use Rattle.one_sound.proofs.Values.{IsInt, Ints, IsOwnObject, Holds, an_object, class_at_object, no_more}
 
 -- the context of a call whose caller has nothing of its own
 abbrev outside : Context
 outside = record { is_static = true; locals = []; room = 0 }
 
-call-keeps : {members : Members} {program : CoreProgram} {count : ℕ} {head : Head} (number : ℕ) (receiver : Value) (given : List Value) → ProgramTyped members program →
-    slice_get members.methods number ≡ Some head → IsReceiver count head.is_static receiver → Ints head.arity given →
-    Keeps (length members.fields) count outside outside (Holds int) (call_method program (java program) one_class number receiver given)
-call-keeps number receiver given p e r q =
-    let found = p.method number _ e in
-    safe-need _ found.1 (keeps-method (java_keeps p) found.0 receiver given found.2 q (held r))
-  where
-    held : {count : ℕ} {is_static : Bool} {receiver : Value} → IsReceiver count is_static receiver → is_static ≡ false → Holds object count receiver
-    held of_static h = absurd (cc)
-    held (of_instance b) h = an_object b
+-- what a whole call replies
+data IsReply (count : ℕ) : Option Value → Type 0 where
+  is_reply : {x : ℤ} → IsReply count (Some (Int x))
 
-done : {count : ℕ} {value : Value} (s : State) → Holds int count value → Replies (Done value s)
-done s Holds.an_int = an_int
+-- in a whole call, outside of the bodies that it runs, nothing returns
+abbrev Whole : {A : Type 0} → ℕ → ℕ → (ℕ → A → Type 0) → Computation A → Type 0
+Whole fields count Q m = Safe (invariant fields) (λ t value. ⊥) count outside outside Q m
 
-pub call_replies : (names all_names : List (List ℕ)) (one : OneTree) (program : CoreProgram) (number units : ℕ) (receiver : Value) (given : List Value) (world : World) (outside : Outside) →
+module _ {members : Members} {program : CoreProgram} (p : ProgramTyped members program) where
+  replied-keeps : {count arity : ℕ} {x : NameId} {is_static : Bool} (number : ℕ) (this : Value) (given : List Value) →
+      slice_get members.methods number ≡ Some (record { name = x; is_static = is_static; arity = arity }) → Ints arity given →
+      (is_static ≡ false → Holds object count this) →
+      Whole (length members.fields) count IsReply (replied program (java program) (record { class = one_class; method = number }) this given)
+  replied-keeps number this given e q r =
+      let found = p.method number _ e in
+      safe-need _ found.1 (safe-bind (keeps-method (java_keeps p) found.0 this given found.2 q r) λ u l value h.
+      rw found.2.returns (safe-ret _ (of_int h)))
+    where
+      of_int : {count : ℕ} {value : Value} → Holds int count value → IsReply count (Some value)
+      of_int Holds.an_int = is_reply
+
+  call-keeps : {count arity : ℕ} {x : NameId} {is_static : Bool} (number : ℕ) (receiver : Receiver) (given : List Value) →
+      slice_get members.methods number ≡ Some (record { name = x; is_static = is_static; arity = arity }) →
+      IsReceiver count is_static receiver → Ints arity given →
+      Whole (length members.fields) count IsReply (call_by program (java program) receiver one_class number given)
+  unfolding call_by
+  call-keeps number _ given e of_static q = replied-keeps number Null given e q λ h. absurd (cc)
+  call-keeps number _ given e (of_instance {o = o} b) q =
+      let class = safe-get_class {Q = λ u own. own ≡ one_class} o one_class (λ objects r. class_at_object o.0 b r) refl in
+      safe-bind class λ u l own h. rw h (safe-need _ refl (replied-keeps number (Ref o) given e q λ z. an_object (omega arith)))
+
+done : {count : ℕ} {reply : Option Value} (s : State) → IsReply count reply → Replies (Done reply s)
+done s is_reply = an_int
+
+pub call_replies : (names all_names : List (List ℕ)) (one : OneTree) (program : CoreProgram) (number units : ℕ) (receiver : Receiver) (given : List Value) (world : World) (outside : Outside) →
     Fits names one → program_of all_names one ≡ Some program → CallFits (members_of one) number receiver given world.objects →
-    Replies (call program units one_class number receiver given world outside)
+    Replies (call program units receiver one_class number given world outside)
 call_replies names all_names one program number units receiver given world outside fits q c =
-    (call-keeps number receiver given (program-typed names all_names one fits q) c.is_method c.is_receiver c.are_ints).run Done ends
-    (record { from = λ u l value h s fine. done s h })
-    (record { leave = λ u l value h s fine. done s h; throw = λ u l exception h s fine. absurd h })
+    (call-keeps (program-typed names all_names one fits q) number receiver given c.is_method c.is_receiver c.are_ints).run Done ends
+    (record { from = λ u l reply h s fine. done s h })
+    (record { leave = λ u l value h s fine. absurd h; throw = λ u l exception h s fine. absurd h })
     (state_at units world outside)
     (record {
       objects = c.are_own;
@@ -57,8 +79,8 @@ call_replies names all_names one program number units receiver given world outsi
 
 pub main_replies : (names all_names : List (List ℕ)) (one : OneTree) (program : CoreProgram) (main units : ℕ) → Fits names one →
     program_of all_names one ≡ Some program → IsMain names (members_of one) main →
-    Replies (call program units one_class main Null [] new_world no_outside)
-main_replies names all_names one program main units fits q is_main = call_replies names all_names one program main units Null [] new_world no_outside fits q (record {
+    Replies (call program units receiver.None one_class main [] new_world no_outside)
+main_replies names all_names one program main units fits q is_main = call_replies names all_names one program main units receiver.None [] new_world no_outside fits q (record {
   head = record { name = is_main.name; is_static = true; arity = 0 };
   is_method = is_main.head;
   is_receiver = of_static;
@@ -68,10 +90,10 @@ main_replies names all_names one program main units fits q is_main = call_replie
 
 -- what an answer that replies is, and what it is not
 
-pub done-is_int : {value : Value} {s : State} → Replies (Done value s) → (x : ℤ) × (value ≡ Int x)
+pub done-is_int : {reply : Option Value} {s : State} → Replies (Done reply s) → (x : ℤ) × (reply ≡ Some (Int x))
 done-is_int (an_int {x = x}) = (x, refl)
 
-pub never_thrown : {exception : ObjId} {s : State} → Replies (Thrown exception s) → ⊥
+pub never_thrown : {exception : ObjId} {s : State} → ¬ Replies (Thrown exception s)
 never_thrown q = elim q [ ]
 
 pub replies-not_wrong : (answer : Answer) → Replies answer → answer ≢ Wrong
@@ -80,5 +102,5 @@ replies-not_wrong answer units_spent e = cc
 
 pub main_not_wrong : (names all_names : List (List ℕ)) (one : OneTree) (program : CoreProgram) (main units : ℕ) → Fits names one →
     program_of all_names one ≡ Some program → IsMain names (members_of one) main →
-    call program units one_class main Null [] new_world no_outside ≢ Wrong
+    call program units receiver.None one_class main [] new_world no_outside ≢ Wrong
 main_not_wrong names all_names one program main units fits q is_main = replies-not_wrong _ (main_replies names all_names one program main units fits q is_main)

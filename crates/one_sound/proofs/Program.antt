@@ -6,11 +6,10 @@ use Rattle.std.proofs.lemmas.List.Elements.{All-nil, All-cons}
 use Rattle.std.proofs.lemmas.Option.{same_Some}
 use Rattle.je_base.specs.declared.span.NameId.{NameId}
 use Rattle.je_base.specs.Names.{number_of}
-use Rattle.je_core.specs.Core.{CoreStmt, CoreMethod, CoreProgram, stmt_list_of, core_stmts}
+use Rattle.je_core.specs.Core.{CoreField, CoreStmt, CoreMethod, CoreProgram}
 use Rattle.je_core.proofs.Views.{stmt_list_of_core_stmts}
 use Rattle.je_core.specs.Defaults.{default_of}
-use Rattle.je_core.specs.declared.program.Field.{Field}
-use Rattle.je_java.specs.Classes.{is_instance, default_slots, slot_after}
+use Rattle.je_java.specs.Classes.{is_instance, slot_after}
 use Rattle.one_syntax.specs.Trees.{ExprTree, StatementTree, MemberTree, field, method, OneTree}
 use Rattle.one_program.specs.declared.scope.Head.{Head}
 use Rattle.one_program.specs.Scope.{Members, members_of, fields_of, heads_of, scope_of, objects_of}
@@ -78,7 +77,7 @@ given-any (Some a) = gives tt
 
 -- the slots of the class
 
-fresh-ints : (xs : List NameId) → Ints (length xs) (map (λ (f : Field). default_of f.ty) (filter is_instance (map int_field xs)))
+fresh-ints : (xs : List NameId) → Ints (length xs) (map (λ (f : CoreField). default_of f.ty) (filter is_instance (map int_field xs)))
 fresh-ints [] = record { length_is = refl; all = All-nil IsInt }
 fresh-ints (x ∷ xs) = let behind = fresh-ints xs in record { length_is = ap suc behind.length_is; all = All-cons IsInt _ _ is_int behind.all }
 

@@ -12,12 +12,14 @@ use Rattle.std.specs.Prelude.{slice_get, Bool, ℤ, pos, true, false, codes}
 use Rattle.std.specs.Int.{int_wrap}
 use Rattle.std.proofs.lemmas.List.Elements.{All-nil, All-cons}
 use Rattle.je_base.specs.declared.span.NameId.{NameId}
-use Rattle.je_core.specs.Core.{Core, CoreForm, Const, Local, This, Field, Assign, Binary, CallVirtual, New, CoreStmt, CoreMethod, CoreClass, CoreProgram, cores}
+use Rattle.je_core.specs.Core.{Core, Local, This, Field, Assign, Binary, CallVirtual, New, CoreStmt, CoreMethod, CoreProgram, cores}
 use Rattle.je_core.specs.declared.expr.BinOp.TheVariants.{Add}
 use Rattle.je_core.specs.declared.object.Obj.TheVariants.{Instance}
 use Rattle.je_core.specs.declared.program.Local.{Local as LocalOf}
 use Rattle.je_core.specs.declared.types.Ty.{Ty}
-use Rattle.je_core.specs.declared.value.Value.TheVariants.{Int, Null, Ref}
+use Rattle.je_core.specs.declared.value.Value.TheVariants.{Int, Null}
+use Rattle.je_java.specs.declared.call.Receiver.TheVariants as receiver
+use Rattle.je_java.specs.Raised.{library_class, null_pointer}
 use Rattle.je_java.specs.World.{World}
 use Rattle.je_java.specs.Steps.{Done, Wrong}
 use Rattle.je_java.specs.Meaning.{java, meanings, call}
@@ -27,7 +29,7 @@ use Rattle.one_syntax.specs.Trees as tree
 use Rattle.one_program.specs.Scope.{Scope, local_of, members_of, scope_of}
 use Rattle.one_program.specs.declared.scope.Sort.TheVariants.{Object as object}
 use Rattle.one_program.specs.Conditions.{IsIntName, NamesMethod, MemberFits, Fits, IsMain}
-use Rattle.one_program.specs.Elaboration.{one_class, int_type, class_type, void_type, nowhere, expr, statement, constant, does, returns, block, program_of}
+use Rattle.one_program.specs.Elaboration.{one_class, int_type, class_type, void_type, nowhere, expr, constant, does, returns, block, flags_of, int_field, class_with, program_of}
 use Rattle.one_sound.specs.Fitting.{new_world, no_outside, IsInt, is_int, Ints, IsOwnObject, own_object, of_instance, CallFits}
 use Rattle.one_sound.specs.Replies.{Replies}
 use Rattle.one_sound.proofs.NeverWrong.{call_replies, main_replies, main_not_wrong}
@@ -66,7 +68,7 @@ names_more : (scope : Scope) → scope.members ≡ members_of one → local_of s
 names_more scope m l h = (record { number = 0; found = l; holds = h }, (0, record { found = rw m refl; head = rw m refl }))
 
 more_fits : MemberFits names (members_of one) (tree.method false (id 2) (id 3 ∷ []) more_body (tree.name (id 1)))
-more_fits = (refl, (refl, tt), ((field_n, (field_n, record { allowed = refl; found = inl refl })), field_n))
+more_fits = (refl, (refl, tt), ((field_n, (refl, (field_n, record { allowed = refl; found = inl refl }))), field_n))
 
 main_fits : MemberFits names (members_of one) (tree.method true (id 4) [] main_body (more_on_o (tree.name (id 6))))
 main_fits = (
@@ -74,7 +76,7 @@ main_fits = (
   tt,
   (
     (refl, refl, refl),
-    ((refl, (names_more _ refl refl refl, ((omega arith, omega arith), tt))), (names_more _ refl refl refl, (record { allowed = refl; found = inl refl }, tt))),
+    ((refl, (names_more _ refl refl refl, ((refl, (omega arith, omega arith)), tt))), (names_more _ refl refl refl, (record { allowed = refl; found = inl refl }, tt))),
   ),
 )
 
@@ -108,7 +110,8 @@ made x is_static params result locals body = record {
   span = nowhere;
   params = params;
   returns = result;
-  flags = record { is_static = is_static };
+  flags = flags_of is_static;
+  throws = [];
   locals = locals;
   body = Some body;
 }
@@ -119,7 +122,7 @@ more_made = made 2 false (int_type ∷ []) int_type (local 3 int_type ∷ []) (b
 
 abbrev main_made : CoreMethod
 main_made = made 4 true [] int_type (local 5 class_type ∷ local 6 int_type ∷ []) (block (0 ∷ 1 ∷ []) (
-    does (expr class_type (Assign (expr class_type (Local 0)) (expr class_type (New one_class 2 (cores []))))) ∷
+    does (expr class_type (Assign (expr class_type (Local 0)) (expr class_type (New one_class 2 (cores []) [] nowhere)))) ∷
     does (expr int_type (Assign (int_local 1) (more_of (constant (pos 5))))) ∷
     returns (more_of (int_local 1)) ∷ []))
 
@@ -128,13 +131,7 @@ constructor_made = made 7 false [] void_type [] (block [] [])
 
 abbrev program : CoreProgram
 program = record {
-  classes = record {
-    name = id 0;
-    span = nowhere;
-    superclass = None;
-    fields = record { name = id 1; span = nowhere; ty = int_type; is_static = false } ∷ [];
-    methods = more_made ∷ main_made ∷ constructor_made ∷ [];
-  } ∷ [];
+  classes = class_with (id 0) (int_field (id 1) ∷ []) (more_made ∷ main_made ∷ constructor_made ∷ []) ∷ [];
   texts = [];
 }
 
@@ -146,11 +143,11 @@ is_main : IsMain names (members_of one) 1
 is_main = record { name = id 4; text = refl; head = refl }
 
 -- the law speaks of it, with any units
-replies : (units : ℕ) → Replies (call program units one_class 1 Null [] new_world no_outside)
+replies : (units : ℕ) → Replies (call program units receiver.None one_class 1 [] new_world no_outside)
 replies units = main_replies names names one program 1 units fits comes_to is_main
 
 -- its reply is 5, and then 10: of 37 units one is the new object's slot
-reply : call program 1000000 one_class 1 Null [] new_world no_outside ≡ Done (Int (pos 10)) (record {
+reply : call program 1000000 receiver.None one_class 1 [] new_world no_outside ≡ Done (Some (Int (pos 10))) (record {
   world = record { objects = Instance one_class (Int (pos 10) ∷ []) ∷ []; statics = [] };
   own = record { this = Null; locals = [] };
   public = record { units = 999963; begun = 36 };
@@ -163,7 +160,7 @@ reply = refl
 abbrev three : World
 three = record { objects = Instance one_class (Int (pos 3) ∷ []) ∷ []; statics = [] }
 
-more_call_fits : CallFits (members_of one) 0 (Ref (record { 0 = 0 })) (Int (pos 4) ∷ []) three.objects
+more_call_fits : CallFits (members_of one) 0 (receiver.Object (record { 0 = 0 })) (Int (pos 4) ∷ []) three.objects
 more_call_fits = record {
   head = record { name = id 2; is_static = false; arity = 1 };
   is_method = refl;
@@ -175,7 +172,7 @@ more_call_fits = record {
     ints : (x : ℤ) → Ints 1 (Int x ∷ [])
     ints x = record { length_is = refl; all = All-cons IsInt (Int x) [] is_int (All-nil IsInt) }
 
-more_replies : (units : ℕ) → Replies (call program units one_class 0 (Ref (record { 0 = 0 })) (Int (pos 4) ∷ []) three no_outside)
+more_replies : (units : ℕ) → Replies (call program units (receiver.Object (record { 0 = 0 })) one_class 0 (Int (pos 4) ∷ []) three no_outside)
 more_replies units = call_replies names names one program 0 units _ _ three no_outside fits comes_to more_call_fits
 
 -- class One { int more() { return 1; } static int main() { return more(); } }
@@ -192,21 +189,15 @@ returning x is_static e = made x is_static [] int_type [] (block [] (returns e �
 
 abbrev unfit_program : CoreProgram
 unfit_program = record {
-  classes = record {
-    name = id 0;
-    span = nowhere;
-    superclass = None;
-    fields = [];
-    methods = returning 2 false (constant (pos 1)) ∷ returning 4 true (expr int_type (CallVirtual (expr class_type This) one_class 0 (cores []))) ∷ constructor_made ∷ [];
-  } ∷ [];
+  classes = class_with (id 0) [] (returning 2 false (constant (pos 1)) ∷ returning 4 true (expr int_type (CallVirtual (expr class_type This) one_class 0 (cores []))) ∷ constructor_made ∷ []) ∷ [];
   texts = [];
 }
 
 unfit_comes_to : program_of names unfit ≡ Some unfit_program
 unfit_comes_to = refl
 
-goes_wrong : call unfit_program 1000000 one_class 1 Null [] new_world no_outside ≡ Wrong
-unfolding java meanings opened
+goes_wrong : call unfit_program 1000000 receiver.None one_class 1 [] new_world no_outside ≡ Wrong
+unfolding java meanings opened null_pointer library_class
 goes_wrong = refl
 
 unfits : ¬ Fits names unfit

@@ -229,10 +229,10 @@ module _ {I : Invariant} {L : Known I Value} {t : I.Time} {c : I.Context} where
 module _ {I : Invariant} {L : Known I Value} {t : I.Time} {c : I.Context} where
   -- steps made of these
 
-  pub safe-binary : {Q : Known I Value} (op : BinOp) (x y : ℤ) →
-      Q t (Int (operate op x y)) → Safe I L t c c Q (binary op (Int x) (Int y))
+  pub safe-binary : {Q : Known I Value} {z : ℤ} (op : BinOp) (x y : ℤ) →
+      operate op x y ≡ Some z → Q t (Int z) → Safe I L t c c Q (binary op (Int x) (Int y))
   unfolding binary
-  safe-binary op x y q = safe-need _ refl (safe-need _ refl (safe-ret (Int (operate op x y)) q))
+  safe-binary op x y e q = safe-need _ refl (safe-need _ refl (safe-need _ e (safe-ret (Int _) q)))
 
   pub safe-make : {Q : Known I ObjId} {slots : List Value} (program : CoreProgram) (class : ClassId) →
       fresh_slots program class ≡ Some slots →

@@ -12,12 +12,12 @@ use Rattle.one_program.specs.Elaboration.{one_class}
 use Rattle.one_program.specs.declared.scope.Sort.{Sort}
 use Rattle.one_program.specs.declared.scope.Sort.TheVariants.{Int as int, Object as object}
 use Rattle.one_program.specs.Scope.{Members}
-use Rattle.one_sound.proofs.Safe.{Any, safe-ret, safe-bind, safe-seq, safe-yields, safe-need, safe-spent, safe-leave, safe-tick, safe-deref, safe-get_class, safe-run_method}
+use Rattle.one_sound.proofs.Safe.{Safe, Any, safe-ret, safe-bind, safe-seq, safe-yields, safe-need, safe-spent, safe-leave, safe-tick, safe-deref, safe-get_class, safe-run_method}
 use Rattle.one_sound.proofs.Values.{IsInt, Ints, Ints-push, Holds, an_int, an_object, Holds-later, class_at_object}
 use Rattle.one_sound.proofs.Typing.{Context, ExprTyped, FormTyped, AllTyped, StmtTyped, StmtsTyped, MethodTyped, ConstructorTyped, ProgramTyped}
-use Rattle.one_sound.proofs.Kept.{Keeps, keeps-this, keeps-get_local, keeps-put_local, keeps-binary, keeps-read_field, keeps-write_field, keeps-initialize, keeps-make, own-begins}
+use Rattle.one_sound.proofs.Kept.{invariant, Keeps, keeps-this, keeps-get_local, keeps-put_local, keeps-binary, keeps-read_field, keeps-write_field, keeps-initialize, keeps-make, own-begins}
 
--- meanings that keep what holds
+-- meanings that keep what holds; a One has no loop, and so no turn of one
 pub record KeepsAll (members : Members) (m : Meanings) : Type 0 where
   pub eval : {c d : Context} {sort : Sort} {e : Core} → ExprTyped members c d sort e → (t : ℕ) →
       Keeps (length members.fields) t c d (Holds sort) (m.eval e)
@@ -57,10 +57,11 @@ module _ {members : Members} {m : Meanings} (g : KeepsAll members m) where
   keeps-block StmtsTyped.end t = safe-ret tt (record {})
   keeps-block (StmtsTyped.next f fs) t = safe-seq (g.exec f t) λ u l. keeps-block fs u
 
-  pub keeps-method : {c : Context} {t : ℕ} {x : NameId} {is_static : Bool} {arity : ℕ} (method : CoreMethod) (this : Value) (given : List Value) →
+  -- whatever the caller itself returns
+  pub keeps-method : {L : ℕ → Value → Type 0} {c : Context} {t : ℕ} {x : NameId} {is_static : Bool} {arity : ℕ} (method : CoreMethod) (this : Value) (given : List Value) →
       MethodTyped members (record { name = x; is_static = is_static; arity = arity }) method → Ints arity given →
       (is_static ≡ false → Holds object t this) →
-      Keeps (length members.fields) t c c (Holds int) (run_method m method this given)
+      Safe (invariant (length members.fields)) L t c c (Holds int) (run_method m method this given)
   keeps-method {t = t} method this given f q r =
       safe-run_method m method this given f.has_body (own-begins method this f.params given f.room (subst (λ n. Ints n given) (sym f.arity) q) r)
       (g.exec f.fits t)
@@ -93,7 +94,7 @@ module _ {members : Members} {program : CoreProgram} (p : ProgramTyped members p
       let found = p.method number _ e in
       let class = safe-get_class {Q = λ u own. own ≡ one_class} o one_class (λ objects r. class_at_object o.0 b r) refl in
       safe-deref program o _ (safe-bind class λ u l own h.
-      rw h (safe-need _ found.1 (keeps-method g found.0 (Ref o) given found.2 q λ z. an_object (omega arith))))
+      rw h (safe-need _ refl (safe-need _ found.1 (keeps-method g found.0 (Ref o) given found.2 q λ z. an_object (omega arith)))))
 
   keeps-run_new : {c : Context} {t : ℕ} →
       Keeps (length members.fields) t c c (Holds object) (run_new program m one_class (length members.methods) [])
@@ -110,8 +111,8 @@ module _ {members : Members} {program : CoreProgram} (p : ProgramTyped members p
   keeps-form (FormTyped.this e) t = keeps-this e
   keeps-form (FormTyped.field {number = number} h f) t =
       safe-bind (g.eval f t) λ u l o r. keeps-read_field program number (p.slot number h) h r
-  keeps-form (FormTyped.binary {op = op} f f') t =
-      safe-bind (g.eval f t) λ u l a r. safe-bind (g.eval f' u) λ v k b s. keeps-binary op (Holds-later k r) s
+  keeps-form (FormTyped.binary {op = op} h f f') t =
+      safe-bind (g.eval f t) λ u l a r. safe-bind (g.eval f' u) λ v k b s. keeps-binary op h (Holds-later k r) s
   keeps-form (FormTyped.call_static {number = number} e fs) t =
       keeps-args g _ fs λ u l given r. keeps-run_exact number given e r
   keeps-form (FormTyped.call_on {number = number} e f fs) t =
@@ -131,7 +132,7 @@ module _ {members : Members} {program : CoreProgram} (p : ProgramTyped members p
   keeps-expr (ExprTyped.of f) t = keeps-form f t
 
   pub keeps-stmt : {c d : Context} {s : CoreStmt} → StmtTyped members c d s → (t : ℕ) →
-      Keeps (length members.fields) t c d Any (exec_form m (stmt_form_of s))
+      Keeps (length members.fields) t c d Any (exec_form program m s (stmt_form_of s))
   keeps-stmt (StmtTyped.does f) t = safe-seq (g.eval f t) λ u l. safe-ret tt (record {})
   keeps-stmt (StmtTyped.returns f) t = safe-bind (g.eval f t) λ u l a r. safe-leave a r
   keeps-stmt (StmtTyped.block fs) t = keeps-block g fs t

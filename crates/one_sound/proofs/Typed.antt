@@ -2,11 +2,10 @@
 use Rattle.std.proofs.Common.{◌≡◌, ℕ, ◌<◌, ◌≤◌, List, [], ◌∷◌, ◌++◌, length, Option, Some, None, refl, sym, subst, ap, ◌∙◌, arith, length-append, inl, inr}
 use Rattle.std.specs.Prelude.{ℤ, ◌+◌, Bool, true, false, IsSome, slice_get, ◌⊎◌}
 use Rattle.je_base.specs.declared.span.NameId.{NameId}
-use Rattle.je_core.specs.Core.{Core, CoreStmt, list_of, cores, stmt_list_of, core_stmts}
+use Rattle.je_core.specs.Core.{Core, list_of, cores}
 use Rattle.je_core.proofs.Views.{list_of_cores}
 use Rattle.one_syntax.specs.Trees.{ExprTree, decimal, name, call, brackets, binary, ExprTrees, none, more, StatementTree, declare, make, assign, perform}
 use Rattle.one_program.specs.declared.scope.Head.{Head}
-use Rattle.one_program.specs.declared.scope.Sort.{Sort}
 use Rattle.one_program.specs.declared.scope.Sort.TheVariants.{Int as int, Object as object}
 use Rattle.one_program.specs.declared.scope.Variable.{Variable}
 use Rattle.one_program.specs.Scope.{Scope, Members, local_of, field_of, objects_of, after, inside}
@@ -102,7 +101,7 @@ module _ (scope : Scope) (room : ℕ) (b : ObjectsBarred scope.barred scope.loca
     expr-typed (name x) f = place-typed x f
     expr-typed (brackets t) f = constant_or-typed (constant_of t) (λ value. ExprTyped.of FormTyped.constant) (expr-typed t f)
     expr-typed (binary op l r) f = constant_or-typed (constant_of (binary op l r)) (λ value. ExprTyped.of FormTyped.constant)
-        (gives-next (expr-typed l f.0) λ left p. gives-next (expr-typed r f.1) λ right q. gives (ExprTyped.of (FormTyped.binary p q)))
+        (gives-next (expr-typed l f.1.0) λ left p. gives-next (expr-typed r f.1.1) λ right q. gives (ExprTyped.of (FormTyped.binary f.0 p q)))
     expr-typed (call receiver x ts) f = gives-next (args-typed ts f.1) λ es fs. call_of-typed receiver x ts es f.0 fs
 
     args-typed : (ts : ExprTrees) → ArgsFit scope ts → Gives (ArgsTyped scope.members here ts) (cores_of scope ts)

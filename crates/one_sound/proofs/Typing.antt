@@ -11,6 +11,7 @@ use Rattle.je_core.specs.declared.value.Value.TheVariants.{Int}
 use Rattle.je_core.specs.Core.{Core, CoreForm, Const, Local, This, Field, Assign, Binary, CallVirtual, CallExact, New, Cores, CoreStmt, CoreStmts, Block, Do, Return, CoreMethod, CoreProgram, node, stmt, no_core, list_of, stmt_list_of}
 use Rattle.je_core.specs.Core as core
 use Rattle.je_java.specs.Classes.{method_at, fresh_slots, field_slot}
+use Rattle.one_program.specs.Conditions.{is_operator}
 use Rattle.one_program.specs.Elaboration.{one_class, int_type}
 use Rattle.one_program.specs.declared.scope.Head.{Head}
 use Rattle.one_program.specs.declared.scope.Sort.{Sort}
@@ -41,7 +42,7 @@ module _ (members : Members) where
       this : c.is_static ≡ false → FormTyped c c object This
       field : {from : Core} {number : ℕ} → number < length members.fields → ExprTyped c c object from →
           FormTyped c c int (Field from one_class number)
-      binary : {op : BinOp} {left right : Core} → ExprTyped c c int left → ExprTyped c c int right →
+      binary : {op : BinOp} {left right : Core} → is_operator op ≡ true → ExprTyped c c int left → ExprTyped c c int right →
           FormTyped c c int (Binary op left right)
       call_static : {number : ℕ} {args : Cores} {x : NameId} →
           slice_get members.methods number ≡ Some (record { name = x; is_static = true; arity = length (list_of args) }) →
@@ -49,7 +50,7 @@ module _ (members : Members) where
       call_on : {from : Core} {number : ℕ} {args : Cores} {x : NameId} →
           slice_get members.methods number ≡ Some (record { name = x; is_static = false; arity = length (list_of args) }) →
           ExprTyped c c object from → AllTyped c (list_of args) → FormTyped c c int (CallVirtual from one_class number args)
-      make : FormTyped c c object (New one_class (length members.methods) core.none)
+      make : {word : Span} → FormTyped c c object (New one_class (length members.methods) core.none [] word)
       assign_local : {ty : Ty} {span at : Span} {from : Core} {number : ℕ} {x : NameId} {sort : Sort} →
           slice_get c.locals number ≡ Some (record { name = x; sort = sort }) → ExprTyped c c sort from →
           FormTyped c c sort (Assign (node (Local number) ty span at) from)

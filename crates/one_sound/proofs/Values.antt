@@ -1,6 +1,6 @@
 -- The values, objects and locals of a One while it runs.
 use Rattle.std.proofs.Common.{◌≡◌, ℕ, zero, suc, ◌<◌, ◌≤◌, List, [], ◌∷◌, ◌++◌, length, get_or, Some, refl, sym, subst, arith, length-append}
-use Rattle.std.specs.Prelude.{ℤ, All, slice_get, slice_set}
+use Rattle.std.specs.Prelude.{ℤ, slice_get, slice_set}
 use Rattle.std.proofs.lemmas.List.{length-set}
 use Rattle.std.proofs.lemmas.List.Elements.{All-get_or, All-set, All-push}
 use Rattle.std.proofs.lemmas.Option.{slice_get-get_or, same_Some}

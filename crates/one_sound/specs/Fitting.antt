@@ -4,7 +4,9 @@ use Rattle.je_core.specs.declared.object.Obj.{Obj}
 use Rattle.je_core.specs.declared.object.Obj.TheVariants.{Instance}
 use Rattle.je_core.specs.declared.value.ObjId.{ObjId}
 use Rattle.je_core.specs.declared.value.Value.{Value}
-use Rattle.je_core.specs.declared.value.Value.TheVariants.{Int, Null, Ref}
+use Rattle.je_core.specs.declared.value.Value.TheVariants.{Int}
+use Rattle.je_java.specs.declared.call.Receiver.{Receiver}
+use Rattle.je_java.specs.declared.call.Receiver.TheVariants as receiver
 use Rattle.je_java.specs.Steps.{Outside}
 use Rattle.je_java.specs.World.{World}
 use Rattle.one_program.specs.Elaboration.{one_class}
@@ -36,13 +38,13 @@ pub record ObjectsFit (fields count : ℕ) (objects : List Obj) : Type 0 where
   pub length_is : length objects ≡ count
   pub all : All (IsOwnObject fields) objects
 
--- the receiver of a method: null where it is static, else an object that is there
-pub data IsReceiver (count : ℕ) : Bool → Value → Type 0 where
-  of_static : IsReceiver count true Null
-  of_instance : {o : ObjId} → o.0 < count → IsReceiver count false (Ref o)
+-- the receiver of a method: none where it is static, else an object that is there
+pub data IsReceiver (count : ℕ) : Bool → Receiver → Type 0 where
+  of_static : IsReceiver count true receiver.None
+  of_instance : {o : ObjId} → o.0 < count → IsReceiver count false (receiver.Object o)
 
 -- The class has a method of this number, and receiver, arguments and objects are what it may be called with.
-pub record CallFits (members : Members) (number : ℕ) (receiver : Value) (given : List Value) (objects : List Obj) : Type 0 where
+pub record CallFits (members : Members) (number : ℕ) (receiver : Receiver) (given : List Value) (objects : List Obj) : Type 0 where
   pub head : Head
   pub is_method : slice_get members.methods number ≡ Some head
   pub is_receiver : IsReceiver (length objects) head.is_static receiver

@@ -16,7 +16,8 @@
 ghost use Rattle.std.specs.Prelude.{◌≡◌, ◌≢◌, ℕ, List, [], Some};
 ghost use Rattle.je_core.specs.Core.{CoreProgram};
 ghost use Rattle.je_core.specs.declared.value.Value.{Value};
-ghost use Rattle.je_core.specs.declared.value.Value.TheVariants.{Null};
+ghost use Rattle.je_java.specs.declared.call.Receiver.{Receiver};
+ghost use Rattle.je_java.specs.declared.call.Receiver.TheVariants as receiver;
 ghost use Rattle.je_java.specs.Meaning.{call};
 ghost use Rattle.je_java.specs.Steps.{Outside, Wrong};
 ghost use Rattle.je_java.specs.World.{World};
@@ -28,12 +29,12 @@ ghost use Rattle.one_sound.specs.Fitting.{new_world, no_outside, CallFits};
 ghost use Rattle.one_sound.specs.Replies.{Replies};
 
 /// A call of a One's method ends with an int, or because its units are spent, whatever their number, where the receiver is
-/// an object that is there, or null for a static method, the arguments are as many ints as the method has parameters, and
+/// an object that is there, or none for a static method, the arguments are as many ints as the method has parameters, and
 /// the world has objects of the One alone.
 pub fn calls_reply()
-    ensures { (names all_names : List (List ℕ)) (one : OneTree) (program : CoreProgram) (number units : ℕ) (receiver : Value) (given : List Value) (world : World) (outside : Outside) →
+    ensures { (names all_names : List (List ℕ)) (one : OneTree) (program : CoreProgram) (number units : ℕ) (receiver : Receiver) (given : List Value) (world : World) (outside : Outside) →
         Fits names one → program_of all_names one ≡ Some program → CallFits (members_of one) number receiver given world.objects →
-        Replies (call program units one_class number receiver given world outside) }
+        Replies (call program units receiver one_class number given world outside) }
 {}
 
 /// The call of a One's `main` ends with an int, or because its units are spent, whatever their number: it throws
@@ -41,8 +42,8 @@ pub fn calls_reply()
 pub fn never_wrong()
     ensures replies { (names all_names : List (List ℕ)) (one : OneTree) (program : CoreProgram) (main units : ℕ) →
         Fits names one → program_of all_names one ≡ Some program → IsMain names (members_of one) main →
-        Replies (call program units one_class main Null [] new_world no_outside) }
+        Replies (call program units receiver.None one_class main [] new_world no_outside) }
     ensures not_wrong { (names all_names : List (List ℕ)) (one : OneTree) (program : CoreProgram) (main units : ℕ) →
         Fits names one → program_of all_names one ≡ Some program → IsMain names (members_of one) main →
-        call program units one_class main Null [] new_world no_outside ≢ Wrong }
+        call program units receiver.None one_class main [] new_world no_outside ≢ Wrong }
 {}
