@@ -49,11 +49,11 @@ method-added members is_static x params body result before after made e is = rec
 }
 
 -- the program of one class in memory
-pub program-seen : (x new : NameId) (fields : List Field) (methods : List Method) (constructor : Method) (class : Class) (program : Program) →
-    class_view class ≡ class_with x (map field_view fields) (map method_view class.methods.items) → class.methods.items ≡ methods ++ constructor ∷ [] → method_view constructor ≡ default_constructor new →
+pub program-seen : (x new : NameId) (fields : List Field) (methods : List Method) (constructor : Method) (all : List Method) (class : Class) (program : Program) →
+    class_view class ≡ class_with x (map field_view fields) (method_views all) → all ≡ methods ++ constructor ∷ [] → method_view constructor ≡ default_constructor new →
     program.classes.items ≡ class ∷ [] → program.texts.items ≡ [] → program_view program ≡ program_with x (map field_view fields) (method_views methods) new
 unfolding program_view
-program-seen x new fields methods constructor class program seen methods_are made classes texts =
+program-seen x new fields methods constructor all class program seen methods_are made classes texts =
     rw (classes, texts, seen, methods_are, map-append method_view methods (constructor ∷ []), made) refl
 
 -- the program of a One, from the parts that the code makes

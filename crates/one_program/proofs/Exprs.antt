@@ -9,6 +9,7 @@ use Rattle.je_core.specs.declared.expr.BinOp.{BinOp}
 use Rattle.je_core.specs.declared.expr.Expr.{Expr}
 use Rattle.je_core.specs.Core.{Core}
 use Rattle.je_core.specs.View.{view, views}
+use Rattle.je_java.specs.Steps.{operate}
 use Rattle.je_base.specs.declared.memory.Memory.{Memory}
 use Rattle.je_base.specs.declared.span.NameId.{NameId}
 use Rattle.one_syntax.specs.declared.tree.Expr.{Expr as Tree, Call, Brackets, Binary}
@@ -25,7 +26,7 @@ use Rattle.one_program.specs.Scope.{Scope}
 use Rattle.one_program.specs.Conditions.{count, ExprFits, ArgsFit}
 use Rattle.one_program.specs.Elaboration.{◌>>=◌, constant, constant_or, operation, call_of, core_of, cores_of}
 use Rattle.one_program.specs.way.Seen.{IsPlace, IsCallee}
-use Rattle.one_program.specs.way.Elaborated.{IsElaborated, IsOperation, IsJoined, node_of, place_node, call_node}
+use Rattle.one_program.specs.way.Elaborated.{IsElaborated, IsOperation, IsFolded, IsJoined, node_of, place_node, call_node}
 
 -- the node of a name
 pub name-node : (scope : Scope) (x : NameId) (p : Place) (node : Core) → IsPlace scope x p → node ≡ place_node p → core_of scope (name x) ≡ Some node
@@ -63,10 +64,16 @@ operation-node scope op l r left right (Node node) k h g o = (
       ∙ ap (λ c. c >>= λ a. core_of scope r >>= λ b. Some (operation op a b)) h ∙ ap (λ c. c >>= λ b. Some (operation op left b)) g ∙ ap (λ (n : Core). Some n) (sym o),
 )
 
+-- the value of an operator on two constants, or its node where it has none
+folded-node : (scope : Scope) (op : BinOp) (l r : ExprTree) (x y : ℤ) (value : Option ℤ) (made : Elaborated) → operate op x y ≡ value → constant_of l ≡ Some x → constant_of r ≡ Some y →
+    IsFolded op x y value made → IsElaborated scope (binary op l r) made
+folded-node scope op l r x y (Some value) made e h g j = subst (IsElaborated scope (binary op l r)) (sym j) (rw (h, g) e)
+folded-node scope op l r x y None made e h g j = operation-node scope op l r (constant x) (constant y) made (rw (h, g) e) (constant-node scope l x h) (constant-node scope r y g) j
+
 -- the node of an operator, or its value
 pub joined-node : (scope : Scope) (op : BinOp) (l r : ExprTree) (left right made : Elaborated) → IsElaborated scope l left → IsElaborated scope r right →
     IsJoined op left right made → IsElaborated scope (binary op l r) made
-joined-node scope op l r (Constant x) (Constant y) made h g j = subst (IsElaborated scope (binary op l r)) (sym j) (rw (h, g) refl)
+joined-node scope op l r (Constant x) (Constant y) made h g j = folded-node scope op l r x y (operate op x y) made refl h g j
 joined-node scope op l r (Constant x) (Node right) made h g j =
     operation-node scope op l r (constant x) (view right) made (not_folded op l r (Some x) h g.0) (constant-node scope l x h) g.1 j
 joined-node scope op l r (Node left) operand made h g j =

@@ -3,11 +3,11 @@
 ghost use Rattle.std.specs.Prelude.{◌≡◌, ℕ, ◌<◌, ◌≤◌, ◌^◌, List, [], codes, true, Some, slice_get, map, length, option_map, IsTrue, OnOk, OnErr, IfOk, IfSome, OnSome, IfNone};
 ghost use Rattle.std.specs.Bool.{OnTrue, OnFalse};
 ghost use Rattle.je_base.specs.Names.{interned, number_of};
-ghost use Rattle.je_core.specs.View.{stmt_view, field_view, method_view, program_view};
+ghost use Rattle.je_core.specs.View.{stmt_view, field_view, method_view, class_view, program_view};
 ghost use Rattle.one_syntax.specs.Trees.{view_member};
 ghost use Rattle.one_program.specs.Scope.{fields_of, heads_of};
 ghost use Rattle.one_program.specs.Conditions.{MemberFits, MembersFit, IsMain};
-ghost use Rattle.one_program.specs.Elaboration.{methods_of, int_field, default_constructor as the_default_constructor, block, program_with};
+ghost use Rattle.one_program.specs.Elaboration.{methods_of, int_field, default_constructor as the_default_constructor, block, class_with, program_with};
 ghost use Rattle.one_program.specs.Sizes.{declarations, declarations_in};
 ghost use Rattle.one_program.specs.way.Built.{HeadsFit, AddsMethod, method_views};
 
@@ -198,7 +198,18 @@ pub fn one_class(
     methods.reserve(1)?;
     let constructor = names.intern("new")?;
     let _ = methods.push(default_constructor(alloc, constructor, body));
-    let _ = classes.push(Class {
+    let _ = classes.push(class_with(alloc, name, fields, methods));
+    Ok(Program {
+        classes,
+        texts: Vec::new(alloc),
+    })
+}
+
+/// The class of these fields and methods.
+fn class_with(alloc: Global, name: NameId, fields: Vec<Field>, methods: Vec<Method>) -> Class
+    ensures { class_view result ≡ class_with name (map field_view fields.items) (method_views methods.items) }
+{
+    Class {
         name,
         span: nodes::NOWHERE,
         kind: PLAIN_CLASS,
@@ -214,11 +225,7 @@ pub fn one_class(
         nth: 0,
         top: nodes::ONE_CLASS,
         bridges: Vec::new(alloc),
-    });
-    Ok(Program {
-        classes,
-        texts: Vec::new(alloc),
-    })
+    }
 }
 
 /// The constructor of a class that declares none.
