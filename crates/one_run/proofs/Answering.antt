@@ -2,7 +2,7 @@
 use Rattle.std.proofs.Common.{◌≡◌, ℕ, ◌≤◌, List, [], Some, Result, Ok, Err, IfOk, codes, refl, subst}
 use Rattle.je_base.specs.Names.{interned}
 use Rattle.je_core.specs.Core.{CoreProgram}
-use Rattle.je_core.specs.declared.value.Value.TheVariants.{Null}
+use Rattle.je_java.specs.declared.call.Receiver.TheVariants as receiver
 use Rattle.je_java.specs.Meaning.{call}
 use Rattle.one_tokens.specs.declared.token.Token.{Token}
 use Rattle.one_tokens.specs.Lexing.{Lexes}
@@ -40,7 +40,7 @@ module _ (bytes : List ℕ) where
           none (subst (λ t. Fits names t) tree (subst (λ ns. Fits ns o.1.0) same.1 o.1.1.fits))
 
       pub with-program : (program : CoreProgram) (main : ℕ) → height one ≤ max_height → Fits names one → program_of (interned names (codes "new")) one ≡ Some program →
-          IsMain names (members_of one) main → (answer : Answer) → IsAnswerTo (call program run_units one_class main Null [] new_world no_outside) answer → Answers bytes answer
+          IsMain names (members_of one) main → (answer : Answer) → IsAnswerTo (call program run_units receiver.None one_class main [] new_world no_outside) answer → Answers bytes answer
       with-program program main low fits comes_to is_main answer a = runs (record {
         names = names;
         one = one;

@@ -6,7 +6,7 @@ use Rattle.je_base.specs.Names.{EachOnce, place_of as number_in, interned}
 use Rattle.je_base.proofs.Numbering.{once-push}
 use Rattle.je_base.specs.declared.span.NameId.{NameId}
 use Rattle.je_core.specs.Core.{CoreProgram}
-use Rattle.je_core.specs.declared.value.Value.TheVariants.{Null}
+use Rattle.je_java.specs.declared.call.Receiver.TheVariants as receiver
 use Rattle.je_java.specs.Steps.{Answer as Outcome}
 use Rattle.je_java.specs.Meaning.{call}
 use Rattle.one_tokens.specs.declared.token.Token.{Token}
@@ -73,7 +73,7 @@ one-end bytes o p r q =
     let program : r.program ≡ q.program = same_Some _ _ (sym r.comes_to ∙ comes_to ∙ q.comes_to) in
     let is_main = subst (λ (ns : List (List ℕ)). IsMain ns (members_of q.one) r.main) same.0 (subst (λ (one : OneTree). IsMain r.names (members_of one) r.main) same.1 r.is_main) in
     let main = one-main q.names (members_of q.one) r.main q.main (once-lexed q.is.lexes once-none) q.is.fits.methods is_main q.is_main in
-    sym r.ends ∙ ap (λ (c : CoreProgram). call c run_units one_class r.main Null [] new_world no_outside) program ∙ ap (λ (n : ℕ). call q.program run_units one_class n Null [] new_world no_outside) main ∙ q.ends
+    sym r.ends ∙ ap (λ (c : CoreProgram). call c run_units receiver.None one_class r.main [] new_world no_outside) program ∙ ap (λ (n : ℕ). call q.program run_units receiver.None one_class n [] new_world no_outside) main ∙ q.ends
 
 answer-once : {o : Outcome} {a b : Answer} → IsAnswerTo o a → IsAnswerTo o b → a ≡ b
 answer-once is_reply is_reply = refl

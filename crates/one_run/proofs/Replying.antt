@@ -20,7 +20,7 @@ record Answered (outcome : Outcome) (next : Next) : Type 0 where
 
 answered : (outcome : Outcome) (s : State) (next : Next) → IsEnd outcome s next → next ≢ More → Replies outcome → Answered outcome next
 answered outcome s More e m r = absurd (m refl)
-answered outcome s (DoneNext v) e m r =
+answered outcome s (DoneNext reply) e m r =
     let i = done-is_int (subst Replies e r) in
     record { answer = Reply i.0; for = ap (λ v. answer_for (DoneNext v)) i.1; is = subst (λ (o : Outcome). IsAnswerTo o (Reply i.0)) (sym (e ∙ ap (λ v. Done v s) i.1)) is_reply }
 answered outcome s (ThrownNext o) e m r = absurd (never_thrown (subst Replies e r))

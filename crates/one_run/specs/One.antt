@@ -2,7 +2,8 @@
 use Rattle.std.specs.Prelude.{◌≡◌, ℕ, ℤ, ◌≤◌, List, [], Some, codes}
 use Rattle.je_base.specs.Names.{interned}
 use Rattle.je_core.specs.Core.{CoreProgram}
-use Rattle.je_core.specs.declared.value.Value.TheVariants.{Int, Null}
+use Rattle.je_core.specs.declared.value.Value.TheVariants.{Int}
+use Rattle.je_java.specs.declared.call.Receiver.TheVariants as receiver
 use Rattle.je_java.specs.Steps.{State, Answer as Outcome, Done, Spent as SpentWith}
 use Rattle.je_java.specs.Meaning.{call}
 use Rattle.one_tokens.specs.declared.token.Token.{Token}
@@ -43,11 +44,11 @@ pub record Runs (bytes : List ℕ) (outcome : Outcome) : Type 0 where
   pub comes_to : program_of (interned names (codes "new")) one ≡ Some program
   pub main : ℕ
   pub is_main : IsMain names (members_of one) main
-  pub ends : call program run_units one_class main Null [] new_world no_outside ≡ outcome
+  pub ends : call program run_units receiver.None one_class main [] new_world no_outside ≡ outcome
 
 -- what an outcome of `main` is to the caller
 pub data IsAnswerTo : Outcome → Answer → Type 0 where
-  is_reply : {value : ℤ} {state : State} → IsAnswerTo (Done (Int value) state) (Reply value)
+  is_reply : {value : ℤ} {state : State} → IsAnswerTo (Done (Some (Int value)) state) (Reply value)
   is_spent : {state : State} → IsAnswerTo (SpentWith state) Spent
 
 -- what the file comes to

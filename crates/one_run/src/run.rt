@@ -1,8 +1,8 @@
 // The call of `main`.
 
 ghost use Rattle.std.specs.Prelude.{◌≡◌, IfOk, []};
-ghost use Rattle.je_core.specs.declared.value.Value.TheVariants.{Null};
 ghost use Rattle.je_core.specs.View.{program_view};
+ghost use Rattle.je_java.specs.declared.call.Receiver.TheVariants as receiver;
 ghost use Rattle.je_java.specs.Meaning.{call};
 ghost use Rattle.one_program.specs.Elaboration.{one_class};
 ghost use Rattle.one_sound.specs.Fitting.{new_world, no_outside};
@@ -21,8 +21,8 @@ const RUN_UNITS: u64 = 1_000_000;
 
 /// Calls `main`, from a world without objects. It is a call that only replies or is spent.
 pub fn run_main(alloc: Global, program: &Program, main: u32) -> Result<Answer, Memory>
-    requires { Replies (call (program_view program.now) run_units one_class main Null [] new_world no_outside) }
-    ensures { IfOk result (IsAnswerTo (call (program_view program.now) run_units one_class main Null [] new_world no_outside)) }
+    requires { Replies (call (program_view program.now) run_units receiver.None one_class main [] new_world no_outside) }
+    ensures { IfOk result (IsAnswerTo (call (program_view program.now) run_units receiver.None one_class main [] new_world no_outside)) }
 {
     let mut heap = Heap::new(alloc, 0)?;
     let main = Call {
@@ -39,12 +39,12 @@ pub fn run_main(alloc: Global, program: &Program, main: u32) -> Result<Answer, M
     }
 }
 
-/// What an end of the machine is to the caller; None where it is no int.
+/// What an end of the machine is to the caller; None where it replies no int.
 fn answer_for(end: Next) -> Option<Answer>
     ensures { result ≡ answer_for end }
 {
     match end {
-        Next::Done(Value::Int(value)) => Some(Answer::Reply(value)),
+        Next::Done(Some(Value::Int(value))) => Some(Answer::Reply(value)),
         Next::Spent => Some(Answer::Spent),
         _ => None,
     }

@@ -7,6 +7,6 @@ use Rattle.one_run.specs.declared.answer.Answer.{Answer}
 use Rattle.one_run.specs.declared.answer.Answer.TheVariants.{Reply, Spent as SpentAnswer}
 
 abbrev pub answer_for : Next → Option Answer
-answer_for (Done (Int value)) = Some (Reply value)
+answer_for (Done (Some (Int value))) = Some (Reply value)
 answer_for Spent = Some SpentAnswer
 answer_for _ = None

@@ -4,7 +4,7 @@ use Rattle.je_core.specs.Core.{CoreProgram}
 use Rattle.je_core.specs.View.{program_view}
 use Rattle.je_core.specs.declared.object.Obj.{Obj}
 use Rattle.je_core.specs.declared.value.Value.{Value}
-use Rattle.je_core.specs.declared.value.Value.TheVariants.{Null}
+use Rattle.je_java.specs.declared.call.Receiver.TheVariants as receiver
 use Rattle.je_heap.specs.Contents.{Contents}
 use Rattle.je_interp.specs.declared.machine.Machine.{Machine}
 use Rattle.je_interp.specs.Finish.{IsEnd, GoesWrong, finish, state_now}
@@ -23,11 +23,11 @@ is-new : (world : World) → world.objects ≡ [] → world.statics ≡ [] → w
 is-new world o s = ap (λ (os : List Obj). let w : World = record { objects = os; statics = world.statics } in w) o ∙ ap (λ (vs : List Value). let w : World = record { objects = []; statics = vs } in w) s
 
 ends-alike : (program : CoreProgram) (main : ℕ) (machine : Machine) (heap : Contents) (args : List Value) → heap.world.objects ≡ [] → heap.world.statics ≡ [] → args ≡ [] →
-    ((h : Contents) (outside : Outside) → finish program machine h outside ≡ call program run_units one_class main Null args h.world outside) →
-    finish program machine heap no_outside ≡ call program run_units one_class main Null [] new_world no_outside
+    ((h : Contents) (outside : Outside) → finish program machine h outside ≡ call program run_units receiver.None one_class main args h.world outside) →
+    finish program machine heap no_outside ≡ call program run_units receiver.None one_class main [] new_world no_outside
 ends-alike program main machine heap args o s a goes =
-    goes heap no_outside ∙ ap (λ (w : World). call program run_units one_class main Null args w no_outside) (is-new heap.world o s)
-    ∙ ap (λ vs. call program run_units one_class main Null vs new_world no_outside) a
+    goes heap no_outside ∙ ap (λ (w : World). call program run_units receiver.None one_class main args w no_outside) (is-new heap.world o s)
+    ∙ ap (λ vs. call program run_units receiver.None one_class main vs new_world no_outside) a
 
 pub run-requires : goal.run-requires
 run-requires c =
