@@ -1,6 +1,7 @@
 pub mod Tokens
 pub mod Types
 pub mod Below
+pub mod Readers
 pub mod Lists
 pub mod Expressions
 pub mod Statements
