@@ -1,0 +1,5 @@
+pub mod Rules
+pub mod Fronts
+pub mod Casts
+pub mod Begins
+pub mod Primaries
