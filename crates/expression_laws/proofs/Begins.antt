@@ -37,7 +37,7 @@ use Rattle.parse_laws.specs.way.Below.{Below}
 use Rattle.parse_laws.specs.way.Lists.{expressions}
 use Rattle.parse_laws.specs.way.Readers.{IsRead, IsReader, IsBelow, Reads, itself, longer, reach, any}
 use Rattle.parse_laws.specs.way.Expressions.{Closed, Inside, literal_kind, literal_at, prefix_kind, prefix_operator, postfix_operator, binary_kind, binary_operator, assignment_kind, assignment_operator, is_outer_this_at, outer_this_at, makes_array_at, more_arguments_at, arguments_at, length_at, more_lengths_at, lengths_at, filled_at, array_at, object_at, creation_at, named_at, super_member_at, parens_at, primary_at, selected_at, index_step, selection_step, selections_at, increments_at, postfix_at, may_be_cast, cast_at, prefix_at, unary_at, binary_step, operation_step, operations_at, choices_at, conditional_at, assignment_at, expression_layer, behind_lone_comma, values_at, array_initializer_layer}
-use Rattle.expression_laws.specs.way.TypeReaders.{SpellsReference, is_reference, IsReferenceRead, ReadTypes}
+use Rattle.expression_laws.specs.way.Parts.{SpellsReference, is_reference, IsReferenceRead, ReadTypes, IsBodyRead, ReadBodies}
 use Rattle.expression_laws.proofs.Rules.{Front, front}
 
 -- whether an expression may begin here
@@ -65,9 +65,12 @@ prefix_begins prefix_op.Decrement ts it_is = refl
 prefix_begins prefix_op.Not ts it_is = refl
 prefix_begins prefix_op.Tilde ts it_is = refl
 
-
 or_first : (a b : Bool) → a ≡ true → (a || b) ≡ true
 or_first a b e = rw e refl
+
+pub height_positive : (e : Expression) → 0 < height e
+height_positive (tree.literal l s) = omega arith
+height_positive _ = omega arith
 
 -- the levels of operators
 pub operators_from : (o : BinaryOp) → 3 ≤ operator_level o

@@ -3,3 +3,5 @@ pub mod Fronts
 pub mod Casts
 pub mod Begins
 pub mod Primaries
+pub mod Sound
+pub mod Arrays

@@ -38,11 +38,18 @@ use Rattle.parse_laws.specs.way.Below.{Below}
 use Rattle.parse_laws.specs.way.Lists.{expressions}
 use Rattle.parse_laws.specs.way.Readers.{IsRead, IsReader, IsBelow, Reads, itself, longer, reach, any}
 use Rattle.parse_laws.specs.way.Expressions.{Closed, Inside, literal_kind, literal_at, prefix_kind, prefix_operator, postfix_operator, binary_kind, binary_operator, assignment_kind, assignment_operator, is_outer_this_at, outer_this_at, makes_array_at, more_arguments_at, arguments_at, length_at, more_lengths_at, lengths_at, filled_at, array_at, object_at, creation_at, named_at, super_member_at, parens_at, primary_at, selected_at, index_step, selection_step, selections_at, increments_at, postfix_at, may_be_cast, cast_at, prefix_at, unary_at, binary_step, operation_step, operations_at, choices_at, conditional_at, assignment_at, expression_layer, behind_lone_comma, values_at, array_initializer_layer}
-use Rattle.expression_laws.specs.way.TypeReaders.{SpellsReference, is_reference, IsReferenceRead, ReadTypes}
+use Rattle.expression_laws.specs.way.Parts.{SpellsReference, is_reference, IsReferenceRead, ReadTypes, IsBodyRead, ReadBodies}
 use Rattle.expression_laws.proofs.Rules.{bind, either, choose, weaken, Front, front, behind_front, FrontName, front_name, identifier_front}
 use Rattle.expression_laws.proofs.Fronts.{FrontLiteral, front_literal, literal_front, Element, an_element, element_read}
 use Rattle.expression_laws.proofs.Casts.{no_cast_in_brackets}
 use Rattle.expression_laws.proofs.Begins.{open_brace_begins_none}
+
+front_given : {k : TokenKind} {ts : List Token} (o : Option (List Token)) → IfSome o (Front k ts) → is_some o ≡ true → (rest : List Token) × Front k ts rest
+front_given (Some rest) f e = (rest, f)
+front_given None f e = absurd cc
+
+pub front_of : (k : TokenKind) (ts : List Token) → is_some (behind_kind k ts) ≡ true → (rest : List Token) × Front k ts rest
+front_of k ts e = front_given (behind_kind k ts) (behind_front k ts) e
 
 module _ (names texts : List (List ℕ)) where
   -- ---- from what stands in front to what is spelled
@@ -124,13 +131,6 @@ module _ (names texts : List (List ℕ)) where
   array_init_of f (expression_init d) = absurd (open_brace_begins_none names texts f d)
   array_init_of f (array_init d) = d
 
-  front_given : {k : TokenKind} {ts : List Token} (o : Option (List Token)) → IfSome o (Front k ts) → is_some o ≡ true → (rest : List Token) × Front k ts rest
-  front_given (Some rest) f e = (rest, f)
-  front_given None f e = absurd cc
-
-  front_of : (k : TokenKind) (ts : List Token) → is_some (behind_kind k ts) ≡ true → (rest : List Token) × Front k ts rest
-  front_of k ts e = front_given (behind_kind k ts) (behind_front k ts) e
-
   -- ---- what is read
 
   module _ (h : ℕ) where
@@ -175,7 +175,7 @@ module _ (names texts : List (List ℕ)) where
       pub within : heights y.0 ≤ h
 
   module _ (h : ℕ) (p : Below) (body : List Token → Closed Members) (below : IsBelow names texts h p)
-      (bodies : (ts : List Token) → IfSome (body ts) (λ x. SpellsBody names texts x.0 x.1 ts x.2 × (members_height x.0 ≤ h))) (types : ReadTypes h) where
+      (bodies : ReadBodies names texts h body) (types : ReadTypes h) where
     pub sound_below : (least : ℕ) (ts : List Token) → 0 < least → least ≤ 13 → IfSome (p.expression least ts) (GoodBelow h least ts)
     sound_below least ts above le = (below.expression least above le).sound ts
 
@@ -268,8 +268,8 @@ module _ (names texts : List (List ℕ)) where
 
     array_of : {w made mid : List Token} {t : TypeName} → Front (kind.Keyword word.New) w made → SpellsElement t made mid → type_height t ≡ 1 → 1 ≤ h →
         IfSome (let d = dims_at (first_span w) mid in
-          if nat_lt 0 d.0 then filled_at texts h p body (first_span w) t d.0 d.2
-          else lengths_at texts h p body mid >>= λ x. let k = dims_at (join (first_span w) x.1) x.2 in Some (tree.new_array t x.0 k.0 k.1, k.2)) (Good h 15 w)
+        if nat_lt 0 d.0 then filled_at texts h p body (first_span w) t d.0 d.2
+        else lengths_at texts h p body mid >>= λ x. let k = dims_at (join (first_span w) x.1) x.2 in Some (tree.new_array t x.0 k.0 k.1, k.2)) (Good h 15 w)
     array_of {w} {made} {mid} {t} new element one room =
         choose (nat_lt 0 (dims_at (first_span w) mid).0) _ _ (λ o. IfSome o (Good h 15 w))
         (λ e. filled_sound (dims_at (first_span w) mid).2 new element one room (ltb-true _ _ e) (types.dims_sound (first_span w) mid))
@@ -282,8 +282,8 @@ module _ (names texts : List (List ℕ)) where
 
     array_from : {w made : List Token} {x : TypeName × List Token} → Front (kind.Keyword word.New) w made → 1 ≤ h → Element made x →
         IfSome (let d = dims_at (first_span w) x.1 in
-          if nat_lt 0 d.0 then filled_at texts h p body (first_span w) x.0 d.0 d.2
-          else lengths_at texts h p body x.1 >>= λ y. let k = dims_at (join (first_span w) y.1) y.2 in Some (tree.new_array x.0 y.0 k.0 k.1, k.2)) (Good h 15 w)
+        if nat_lt 0 d.0 then filled_at texts h p body (first_span w) x.0 d.0 d.2
+        else lengths_at texts h p body x.1 >>= λ y. let k = dims_at (join (first_span w) y.1) y.2 in Some (tree.new_array x.0 y.0 k.0 k.1, k.2)) (Good h 15 w)
     array_from new room (an_element e one) = array_of new e one room
 
     array_sound : {w made : List Token} → Front (kind.Keyword word.New) w made → 1 ≤ h → IfSome (array_at texts h p body (first_span w) made) (Good h 15 w)
@@ -296,11 +296,11 @@ module _ (names texts : List (List ℕ)) where
     object_sound {w} {made} new =
         bind (reference_at h made) _ (IsReferenceRead h made) (Good h 15 w) (types.reference_sound made)
         (λ c r. bind (arguments_at texts h p body c.1) _ (GoodArguments h c.1) (Good h 15 w) (arguments_sound c.1)
-        (λ x g. either (body x.2) _ _ (λ b. SpellsBody names texts b.0 b.1 x.2 b.2 × (members_height b.0 ≤ h)) (λ o. IfSome o (Good h 15 w)) (bodies x.2)
+        (λ x g. either (body x.2) _ _ (IsBodyRead names texts h x.2) (λ o. IfSome o (Good h 15 w)) (bodies.sound x.2)
         (λ b m. record {
-          spelled = new_anonymous_in new r.spelled g.spelled m.0;
+          spelled = new_anonymous_in new r.spelled g.spelled m.spelled;
           fits = omega arith;
-          within = let a = r.within in let b = g.within in let c = m.1 in omega arith;
+          within = let a = r.within in let b = g.within in let c = m.within in omega arith;
         })
         (record {
           spelled = new_in new r.spelled g.spelled;

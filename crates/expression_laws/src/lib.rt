@@ -1,4 +1,10 @@
-//! Expressions are read right.
+//! Reading expressions: what is read is what the grammar spells.
 //!
-//! Each production of expressions, over any reader of the height below that reads right, reads what the grammar spells.
+//! `parse_laws` has one reading function for each production of expressions, over a reader of the height below. The laws here
+//! hold over each such reader that reads right (`IsBelow`), with readers of class bodies and of types that read right
+//! (`specs/way/Parts.antt`). They speak of definitions alone; the parser's recursion puts them together, height by height.
 #![tactic(auto)]
+
+mod laws;
+
+pub use laws::expressions_are_spelled;

@@ -92,16 +92,16 @@ pub record IsRead {T : Type 0} (spells : T → List Token → List Token → Typ
   pub fits : asked x.0
   pub within : height_of x.0 ≤ most
 
--- It reads the trees that are asked for, at most so high, where the tokens that may go on with one are given.
-pub record IsReader {T : Type 0} (spells : T → List Token → List Token → Type 0) (height_of : T → ℕ) (asked : T → Type 0) (goes_on : List Token → Type 0) (most : ℕ) (f : List Token → Read T) : Type 0 where
+-- It reads the trees that are asked for, at most so high, where what may go on with a tree is given.
+pub record IsReader {T : Type 0} (spells : T → List Token → List Token → Type 0) (height_of : T → ℕ) (asked : T → Type 0) (goes_on : T → List Token → Type 0) (most : ℕ) (f : List Token → Read T) : Type 0 where
   pub sound : (ts : List Token) → IfSome (f ts) (IsRead spells height_of asked most ts)
-  pub exact : (t : T) (ts rest : List Token) → spells t ts rest → asked t → height_of t ≤ most → Reads (f ts) t rest (goes_on rest)
+  pub exact : (t : T) (ts rest : List Token) → spells t ts rest → asked t → height_of t ≤ most → Reads (f ts) t rest (goes_on t rest)
 
 abbrev pub any : {T : Type 0} → T → Type 0
 any t = ⊤
 
-abbrev pub never : List Token → Type 0
-never ts = ⊥
+abbrev pub never : {T : Type 0} → T → List Token → Type 0
+never t ts = ⊥
 
 abbrev pub block_tree_height : BlockTree → ℕ
 block_tree_height b = suc (statements_height b.statements)
@@ -114,9 +114,9 @@ module _ (names texts : List (List ℕ)) where
 
   -- what reads the trees of at most this height
   pub record IsBelow (most : ℕ) (p : Below) : Type 0 where
-    pub expression : (least : ℕ) → 0 < least → least ≤ 13 → IsReader (Spells names texts) height (λ e. least ≤ level e) (λ rest. least ≤ reach rest) most (p.expression least)
-    pub initializer : IsReader (SpellsInit names texts) height any (λ rest. 1 ≤ reach rest) most p.initializer
-    pub statement : IsReader (SpellsStatement names texts) statement_height any (λ rest. continues rest ≡ true) most p.statement
-    pub block_statement : IsReader (SpellsBlockStatement names texts) statement_height any (λ rest. continues rest ≡ true) most p.block_statement
+    pub expression : (least : ℕ) → 0 < least → least ≤ 13 → IsReader (Spells names texts) height (λ e. least ≤ level e) (λ e rest. least ≤ reach rest) most (p.expression least)
+    pub initializer : IsReader (SpellsInit names texts) height any (λ e rest. (1 ≤ level e) × (1 ≤ reach rest)) most p.initializer
+    pub statement : IsReader (SpellsStatement names texts) statement_height any (λ b rest. continues rest ≡ true) most p.statement
+    pub block_statement : IsReader (SpellsBlockStatement names texts) statement_height any (λ b rest. continues rest ≡ true) most p.block_statement
     pub block : IsReader SpellsBlockTree block_tree_height any never most p.block
     pub member : IsReader (SpellsMember names texts) member_height any never most p.member

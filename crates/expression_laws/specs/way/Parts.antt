@@ -1,13 +1,17 @@
--- What the productions of expressions rest on where names and types stand in them.
+-- What the productions of expressions rest on where names, types and class bodies stand in them.
 use Rattle.std.specs.Prelude.{◌≡◌, ℕ, ◌<◌, ◌≤◌, Bool, true, false, List, [], ◌∷◌, length, Option, Some, None, IfSome, ◌⊎◌}
 use Rattle.je_base.specs.declared.span.Span.{Span}
 use Rattle.je_token.specs.declared.symbol.Symbol.TheVariants as symbol
 use Rattle.je_token.specs.declared.token.Token.{Token}
 use Rattle.je_ast.specs.Types.{QualifiedName, TypeName, TypeNames, class_type, type_height}
+use Rattle.je_ast.specs.Trees.{Members}
+use Rattle.je_ast.specs.Height.{members_height}
+use Rattle.je_grammar.specs.Grammar.{SpellsBody}
 use Rattle.je_grammar.specs.Types.{SpellsName, SpellsDims, SpellsRef}
 use Rattle.parse_laws.specs.way.Tokens.{Read, is_some, is_symbol}
 use Rattle.parse_laws.specs.way.Types.{part_at, pair_at, name_at, dims_at, reference_at}
 use Rattle.parse_laws.specs.way.Readers.{Reads}
+use Rattle.parse_laws.specs.way.Expressions.{Closed}
 
 -- Ref, as a type without brackets
 pub data SpellsReference : TypeName → List Token → List Token → Type 0 where
@@ -27,3 +31,13 @@ pub record ReadTypes (most : ℕ) : Type 0 where
   pub reference_sound : (ts : List Token) → IfSome (reference_at most ts) (IsReferenceRead most ts)
   pub reference_exact : (t : TypeName) (ts rest : List Token) → SpellsReference t ts rest → type_height t ≤ most → is_some (part_at rest) ≡ false → is_symbol symbol.Less rest ≡ false →
       reference_at most ts ≡ Some (t, rest)
+
+module _ (names texts : List (List ℕ)) where
+  pub record IsBodyRead (most : ℕ) (ts : List Token) (x : Members × Span × List Token) : Type 0 where
+    pub spelled : SpellsBody names texts x.0 x.1 ts x.2
+    pub within : members_height x.0 ≤ most
+
+  -- the class bodies with members of at most this height are read right
+  pub record ReadBodies (most : ℕ) (body : List Token → Closed Members) : Type 0 where
+    pub sound : (ts : List Token) → IfSome (body ts) (IsBodyRead most ts)
+    pub exact : (ms : Members) (c : Span) (ts rest : List Token) → SpellsBody names texts ms c ts rest → members_height ms ≤ most → body ts ≡ Some (ms, c, rest)

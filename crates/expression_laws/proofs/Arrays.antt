@@ -1,0 +1,133 @@
+-- What is read as an array initializer is spelled.
+use Rattle.std.proofs.Common.{◌≡◌, ℕ, zero, suc, ◌+◌, ◌<◌, ◌≤◌, max, Bool, true, false, not, cond, ℤ, pos, negsuc, List, [], ◌∷◌, ◌++◌, length, Option, Some, None, IfSome, refl, sym, ap, ◌∙◌, subst, arith, ◌&&◌, ◌||◌, nat_lt, ◌⊎◌, inl, inr, append_assoc, append-nil, slice_get}
+use Rattle.std.proofs.lemmas.Bool.{ltb-false, lt-ltb, cases_lt}
+use Rattle.je_base.specs.declared.span.Span.{Span}
+use Rattle.je_token.specs.declared.keyword.Keyword.{Keyword}
+use Rattle.je_token.specs.declared.keyword.Keyword.TheVariants as word
+use Rattle.je_token.specs.declared.symbol.Symbol.{Symbol}
+use Rattle.je_token.specs.declared.symbol.Symbol.TheVariants as symbol
+use Rattle.je_token.specs.declared.token.Token.{Token}
+use Rattle.je_token.specs.declared.token.TokenKind.{TokenKind}
+use Rattle.je_token.specs.declared.token.TokenKind.TheVariants as kind
+use Rattle.je_ast.specs.declared.expr.Literal.{Literal}
+use Rattle.je_ast.specs.declared.expr.Literal.TheVariants as lit
+use Rattle.je_ast.specs.declared.name.Identifier.{Identifier}
+use Rattle.je_ast.specs.declared.operator.BinaryOp.{BinaryOp}
+use Rattle.je_ast.specs.declared.operator.BinaryOp.TheVariants as op
+use Rattle.je_ast.specs.declared.operator.PrefixOp.{PrefixOp}
+use Rattle.je_ast.specs.declared.operator.PrefixOp.TheVariants as prefix_op
+use Rattle.je_ast.specs.declared.operator.PostfixOp.{PostfixOp}
+use Rattle.je_ast.specs.declared.operator.PostfixOp.TheVariants as postfix_op
+use Rattle.je_ast.specs.declared.ty_name.Primitive.{Primitive}
+use Rattle.je_ast.specs.declared.ty_name.Primitive.TheVariants as prim
+use Rattle.je_ast.specs.Types.{QualifiedName, TypeName, TypeNames, primitive, class_type, no_types, more_types, type_height, types_height}
+use Rattle.je_ast.specs.Trees.{Expression, Expressions, Member, Members}
+use Rattle.je_ast.specs.Trees as tree
+use Rattle.je_ast.specs.Height.{height, heights, members_height}
+use Rattle.je_ast.specs.Spans.{join, span_of, type_span}
+use Rattle.je_grammar.specs.Tokens.{Is, it_is, IsWord, IsSymbol, IsIdentifier, identifier, first_span}
+use Rattle.je_grammar.specs.Operators.{level, operator_level, operator_symbol, prefix_symbol, postfix_symbol, assignment_symbol}
+use Rattle.je_grammar.specs.Types.{SpellsName, simple_name, qualified_name, SpellsDims, no_dims, more_dims, SpellsTypeName, primitive_type, reference_type, SpellsRef, plain_ref, primitive_word, has_arguments}
+use Rattle.je_grammar.specs.Context.{is_name, begins_operand, is_cast_before, is_not_plus_minus, is_bare_creation, symbol_begins_operand}
+use Rattle.je_grammar.specs.Grammar.{IsLiteral, int_literal, long_literal, char_literal, text_literal, true_literal, false_literal, null_literal, SpellsElement, primitive_element, class_element, Spells, is_literal, is_simple_name, is_this, is_outer_this, is_parens, is_select, is_super_select, is_call, is_call_on, is_super_call, is_index, is_new, is_new_anonymous, is_new_array, is_new_array_of, is_primitive_cast, is_class_cast, is_prefix, is_postfix, is_binary, is_instance_of, is_conditional, is_assign}
+use Rattle.je_grammar.specs.Grammar.{SpellsArguments, no_arguments, some_arguments, SpellsList, last_expression, more_expressions, SpellsLengths, last_length, more_lengths, SpellsInit, expression_init, array_init, SpellsArrayInit, is_array_init, SpellsInits, no_inits, comma_alone, some_inits, SpellsMoreInits, last_init, last_init_and_comma, more_inits, SpellsBody}
+use Rattle.parse_laws.specs.way.Tokens.{Read, ◌>>=◌, with, is_some, behind, behind_word, behind_kind, is_symbol, is_word, is_identifier, identifier_at}
+use Rattle.parse_laws.specs.way.Types.{part_at, pair_at, name_at, past_name_at, primitive_at, primitive_kind, primitive_type_at, with_dims, dims_at, element_at, plain_type_at, past_dims_at, reference_at, is_cast_at}
+use Rattle.parse_laws.specs.way.Below.{Below}
+use Rattle.parse_laws.specs.way.Lists.{expressions}
+use Rattle.parse_laws.specs.way.Readers.{IsRead, IsReader, IsBelow, Reads, itself, longer, reach, any}
+use Rattle.parse_laws.specs.way.Expressions.{Closed, Inside, literal_kind, literal_at, prefix_kind, prefix_operator, postfix_operator, binary_kind, binary_operator, assignment_kind, assignment_operator, is_outer_this_at, outer_this_at, makes_array_at, more_arguments_at, arguments_at, length_at, more_lengths_at, lengths_at, filled_at, array_at, object_at, creation_at, named_at, super_member_at, parens_at, primary_at, selected_at, index_step, selection_step, selections_at, increments_at, postfix_at, may_be_cast, cast_at, prefix_at, unary_at, binary_step, operation_step, operations_at, choices_at, conditional_at, assignment_at, expression_layer, behind_lone_comma, values_at, array_initializer_layer}
+use Rattle.expression_laws.specs.way.Parts.{SpellsReference, is_reference, IsReferenceRead, ReadTypes, IsBodyRead, ReadBodies}
+use Rattle.expression_laws.proofs.Rules.{bind, either, choose, weaken, Front, front, behind_front, behind_of}
+use Rattle.expression_laws.proofs.Begins.{close_brace_begins_none}
+use Rattle.expression_laws.proofs.Primaries.{front_of}
+
+module _ (names texts : List (List ℕ)) where
+  -- the values behind others, up to the brace
+  data Values (h : ℕ) (before : List Expression) (ts : List Token) (y : Expressions × Span × List Token) : Type 0 where
+    ended : {rest : List Token} → Front (kind.Symbol symbol.CloseBrace) ts rest → y ≡ (expressions before, first_span ts, rest) → Values h before ts y
+    some_values : (items : List Expression) → y.0 ≡ expressions (before ++ items) → SpellsMoreInits names texts (expressions items) y.1 ts y.2 → heights (expressions items) ≤ h → Values h before ts y
+
+  last_value : {e : Expression} {ts last rest : List Token} → SpellsInit names texts e ts last → Front (kind.Symbol symbol.CloseBrace) last rest →
+      SpellsMoreInits names texts (tree.more_expressions e tree.no_expressions) (first_span last) ts rest
+  last_value d (front c) = last_init d c
+
+  last_value_and_comma : {e : Expression} {ts next last rest : List Token} → SpellsInit names texts e ts next → Front (kind.Symbol symbol.Comma) next last → Front (kind.Symbol symbol.CloseBrace) last rest →
+      SpellsMoreInits names texts (tree.more_expressions e tree.no_expressions) (first_span last) ts rest
+  last_value_and_comma d (front k) (front c) = last_init_and_comma d k c
+
+  value_then : {e : Expression} {es : Expressions} {c : Span} {ts next mid rest : List Token} → SpellsInit names texts e ts next → Front (kind.Symbol symbol.Comma) next mid → SpellsMoreInits names texts es c mid rest →
+      SpellsMoreInits names texts (tree.more_expressions e es) c ts rest
+  value_then d (front k) l = more_inits d k l
+
+  no_value : {ts rest : List Token} → Front (kind.Symbol symbol.CloseBrace) ts rest → SpellsInits names texts tree.no_expressions (first_span ts) ts rest
+  no_value (front c) = no_inits c
+
+  lone_comma : {ts mid rest : List Token} → Front (kind.Symbol symbol.Comma) ts mid → Front (kind.Symbol symbol.CloseBrace) mid rest → SpellsInits names texts tree.no_expressions (first_span mid) ts rest
+  lone_comma (front k) (front c) = comma_alone k c
+
+  array_in : {es : Expressions} {c : Span} {ts inside rest : List Token} → Front (kind.Symbol symbol.OpenBrace) ts inside → SpellsInits names texts es c inside rest →
+      SpellsArrayInit names texts (tree.array_init es (join (first_span ts) c)) ts rest
+  array_in (front o) i = is_array_init o i
+
+  close_brace_begins_no_value : {e : Expression} {ts behind_it rest : List Token} → Front (kind.Symbol symbol.CloseBrace) ts behind_it → ¬ SpellsInit names texts e ts rest
+  close_brace_begins_no_value f (expression_init d) = close_brace_begins_none names texts f d
+  close_brace_begins_no_value (front it_is) (array_init (is_array_init o i)) = elim o [ ]
+
+  close_brace_begins_no_values : {es : Expressions} {c : Span} {ts behind_it rest : List Token} → Front (kind.Symbol symbol.CloseBrace) ts behind_it → ¬ SpellsMoreInits names texts es c ts rest
+  close_brace_begins_no_values f (last_init d c) = close_brace_begins_no_value f d
+  close_brace_begins_no_values f (last_init_and_comma d k c) = close_brace_begins_no_value f d
+  close_brace_begins_no_values f (more_inits d k l) = close_brace_begins_no_value f d
+
+  -- what stands behind a comma that only a closing brace follows
+  data Lone (ts : List Token) (mid : List Token) : Type 0 where
+    the_same : mid ≡ ts → Lone ts mid
+    skipped : {rest : List Token} → Front (kind.Symbol symbol.Comma) ts mid → Front (kind.Symbol symbol.CloseBrace) mid rest → Lone ts mid
+
+  record GoodInits (h : ℕ) (ts : List Token) (y : Expressions × Span × List Token) : Type 0 where
+    spelled : SpellsInits names texts y.0 y.1 ts y.2
+    within : heights y.0 ≤ h
+
+  module _ (h : ℕ) (p : Below) (body : List Token → Closed Members) (below : IsBelow names texts h p) where
+    lone_sound : (ts : List Token) → Lone ts (behind_lone_comma texts h p body ts)
+    unfolding behind_lone_comma
+    lone_sound ts = either (behind symbol.Comma ts) _ ts (Front (kind.Symbol symbol.Comma) ts) (Lone ts) (behind_front (kind.Symbol symbol.Comma) ts)
+        (λ rest k. choose (is_symbol symbol.CloseBrace rest) rest ts (Lone ts) (λ e. skipped k (front_of (kind.Symbol symbol.CloseBrace) rest e).1) (λ _. the_same refl)) (the_same refl)
+
+    then_values : (before : List Expression) {e : Expression} {ts next mid : List Token} {y : Expressions × Span × List Token} → SpellsInit names texts e ts next → height e ≤ h → Front (kind.Symbol symbol.Comma) next mid →
+        Values h (before ++ e ∷ []) mid y → Values h before ts y
+    then_values before {e} d le k (ended c w) = some_values (e ∷ []) (ap (λ (z : Expressions × Span × List Token). z.0) w) (rw w (last_value_and_comma d k c)) (omega arith)
+    then_values before {e} d le k (some_values items w l b) = some_values (e ∷ items) (w ∙ ap expressions (append_assoc before (e ∷ []) items)) (value_then d k l) (omega arith)
+
+    values_close : (n : ℕ) (before : List Expression) {ts rest : List Token} → Front (kind.Symbol symbol.CloseBrace) ts rest → IfSome (values_at texts h p body n before ts) (λ y. y ≡ (expressions before, first_span ts, rest))
+    unfolding values_at
+    values_close zero before c = tt
+    values_close (suc n) before c = rw (behind_of c) refl
+
+    values_sound : (n : ℕ) (before : List Expression) (ts : List Token) → IfSome (values_at texts h p body n before ts) (Values h before ts)
+    unfolding values_at
+    values_sound zero before ts = tt
+    values_sound (suc n) before ts =
+        either (behind symbol.CloseBrace ts) _ _ (Front (kind.Symbol symbol.CloseBrace) ts) (λ o. IfSome o (Values h before ts)) (behind_front (kind.Symbol symbol.CloseBrace) ts) (λ rest f. ended f refl)
+        (bind (p.initializer ts) _ (IsRead (SpellsInit names texts) height any h ts) (Values h before ts) (below.initializer.sound ts)
+        (λ x g. either (behind symbol.Comma x.1) _ _ (Front (kind.Symbol symbol.Comma) x.1) (λ o. IfSome o (Values h before ts)) (behind_front (kind.Symbol symbol.Comma) x.1)
+        (λ mid k. weaken _ (Values h (before ++ x.0 ∷ []) mid) (Values h before ts) (values_sound n (before ++ x.0 ∷ []) mid) (λ y v. then_values before g.spelled g.within k v))
+        (choose (is_symbol symbol.CloseBrace x.1) _ _ (λ o. IfSome o (Values h before ts))
+        (λ e. let c = front_of (kind.Symbol symbol.CloseBrace) x.1 e in
+        weaken _ (λ y. y ≡ (expressions (before ++ x.0 ∷ []), first_span x.1, c.0)) (Values h before ts) (values_close n (before ++ x.0 ∷ []) c.1)
+        (λ y w. some_values (x.0 ∷ []) (ap (λ (z : Expressions × Span × List Token). z.0) w) (rw w (last_value g.spelled c.1)) (let a = g.within in omega arith)))
+        (λ _. tt))))
+
+    inits_of : {ts mid : List Token} {y : Expressions × Span × List Token} → Lone ts mid → Values h [] mid y → GoodInits h ts y
+    inits_of {mid = mid} (the_same e) (ended {rest} c w) = record { spelled = rw w (subst (λ u. SpellsInits names texts tree.no_expressions (first_span mid) u rest) e (no_value c)); within = rw w (omega arith) }
+    inits_of {y = y} (the_same e) (some_values items w l b) = record { spelled = rw w (subst (λ u. SpellsInits names texts (expressions items) y.1 u y.2) e (some_inits l)); within = rw w b }
+    inits_of (skipped k c) (ended d w) = record { spelled = rw w (lone_comma k d); within = rw w (omega arith) }
+    inits_of (skipped k c) (some_values items w l b) = absurd (close_brace_begins_no_values c l)
+
+    pub array_initializer_sound : (ts : List Token) → IfSome (array_initializer_layer texts h p body ts) (IsRead (SpellsArrayInit names texts) height any (suc h) ts)
+    unfolding array_initializer_layer
+    array_initializer_sound ts =
+        bind (behind symbol.OpenBrace ts) _ (Front (kind.Symbol symbol.OpenBrace) ts) (IsRead (SpellsArrayInit names texts) height any (suc h) ts) (behind_front (kind.Symbol symbol.OpenBrace) ts)
+        (λ inside o. bind (values_at texts h p body (length inside) [] (behind_lone_comma texts h p body inside)) _ (GoodInits h inside) (IsRead (SpellsArrayInit names texts) height any (suc h) ts)
+        (weaken _ (Values h [] (behind_lone_comma texts h p body inside)) (GoodInits h inside) (values_sound (length inside) [] (behind_lone_comma texts h p body inside)) (λ y v. inits_of (lone_sound inside) v))
+        (λ y i. record { spelled = array_in o i.spelled; fits = tt; within = let a = i.within in omega arith }))
