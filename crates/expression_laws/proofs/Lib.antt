@@ -5,3 +5,5 @@ pub mod Begins
 pub mod Primaries
 pub mod Sound
 pub mod Arrays
+pub mod Moves
+pub mod Inner

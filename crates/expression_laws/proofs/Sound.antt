@@ -47,10 +47,10 @@ module _ (names texts : List (List ℕ)) where
   -- ---- from what stands in front to what is spelled
 
   -- a point and a name
-  record Selected (ts : List Token) (x : Identifier × List Token) : Type 0 where
-    behind_dot : List Token
-    dot : Front (kind.Symbol symbol.Dot) ts behind_dot
-    name : FrontName behind_dot x
+  pub record Selected (ts : List Token) (x : Identifier × List Token) : Type 0 where
+    pub behind_dot : List Token
+    pub dot : Front (kind.Symbol symbol.Dot) ts behind_dot
+    pub name : FrontName behind_dot x
 
   select_by : {e : Expression} {n : Identifier} {ts mid a rest : List Token} → 15 ≤ level e → Spells names texts e ts mid → Front (kind.Symbol symbol.Dot) mid a → FrontName a (n, rest) →
       Spells names texts (tree.select e n (join (span_of e) n.span)) ts rest
@@ -96,14 +96,14 @@ module _ (names texts : List (List ℕ)) where
   assign_by le l (front_assignment e a) r = is_assign le l e a r
 
   -- the choices behind a question mark
-  record Choices (h : ℕ) (ts : List Token) (y : Expression × Expression × List Token) : Type 0 where
-    inside : List Token
-    colon : List Token
-    other : List Token
-    question : Front (kind.Symbol symbol.Question) ts inside
-    first : GoodBelow names texts h 1 inside (y.0, colon)
-    between : Front (kind.Symbol symbol.Colon) colon other
-    second : GoodBelow names texts h 2 other (y.1, y.2)
+  pub record Choices (h : ℕ) (ts : List Token) (y : Expression × Expression × List Token) : Type 0 where
+    pub inside : List Token
+    pub colon : List Token
+    pub other : List Token
+    pub question : Front (kind.Symbol symbol.Question) ts inside
+    pub first : GoodBelow names texts h 1 inside (y.0, colon)
+    pub between : Front (kind.Symbol symbol.Colon) colon other
+    pub second : GoodBelow names texts h 2 other (y.1, y.2)
 
   looser : {h k l : ℕ} {ts : List Token} {x : Expression × List Token} → l ≤ k → Good names texts h k ts x → Good names texts h l ts x
   looser le g = record { spelled = g.spelled; fits = let b = g.fits in omega arith; within = g.within }
@@ -112,7 +112,7 @@ module _ (names texts : List (List ℕ)) where
 
   module _ (h : ℕ) (p : Below) (body : List Token → Closed Members) (below : IsBelow names texts h p)
       (bodies : ReadBodies names texts h body) (types : ReadTypes h) where
-    selected_sound : (ts : List Token) → IfSome (selected_at texts h p body ts) (Selected ts)
+    pub selected_sound : (ts : List Token) → IfSome (selected_at texts h p body ts) (Selected ts)
     selected_sound ts = bind (behind symbol.Dot ts) identifier_at (Front (kind.Symbol symbol.Dot) ts) (Selected ts) (behind_front (kind.Symbol symbol.Dot) ts)
         (λ a f. weaken (identifier_at a) (FrontName a) (Selected ts) (identifier_front a) (λ x n. record { behind_dot = a; dot = f; name = n }))
 
@@ -215,7 +215,7 @@ module _ (names texts : List (List ℕ)) where
         g))
         g))
 
-    choices_sound : (ts : List Token) → IfSome (choices_at texts h p body ts) (Choices h ts)
+    pub choices_sound : (ts : List Token) → IfSome (choices_at texts h p body ts) (Choices h ts)
     unfolding choices_at
     choices_sound ts =
         bind (behind symbol.Question ts >>= p.expression 1) _ (λ x. (inside : List Token) × Front (kind.Symbol symbol.Question) ts inside × GoodBelow names texts h 1 inside x) (Choices h ts)
