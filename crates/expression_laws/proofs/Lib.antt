@@ -7,3 +7,4 @@ pub mod Sound
 pub mod Arrays
 pub mod Moves
 pub mod Inner
+pub mod Atoms

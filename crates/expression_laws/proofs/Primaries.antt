@@ -166,7 +166,7 @@ module _ (names texts : List (List ℕ)) where
       pub within : height x.0 ≤ h
 
     -- no lengths behind others, or some
-    data MoreLengths (before : List Expression) (s : Span) (ts : List Token) (y : Expressions × Span × List Token) : Type 0 where
+    pub data MoreLengths (before : List Expression) (s : Span) (ts : List Token) (y : Expressions × Span × List Token) : Type 0 where
       no_more : y ≡ (expressions before, s, ts) → MoreLengths before s ts y
       some_more : (items : List Expression) → y.0 ≡ expressions (before ++ items) → SpellsLengths names texts (expressions items) y.1 ts y.2 → heights (expressions items) ≤ h → MoreLengths before s ts y
 
@@ -233,7 +233,7 @@ module _ (names texts : List (List ℕ)) where
     next_length before s {ts} {x} {y} g (some_more items w l b) = some_more (x.0 ∷ items) (w ∙ ap expressions (append_assoc before (x.0 ∷ []) items))
         (length_then g.opens g.spelled g.closes l) (let a = g.within in omega arith)
 
-    more_lengths_sound : (n : ℕ) (before : List Expression) (s : Span) (ts : List Token) → MoreLengths h before s ts (more_lengths_at texts h p body n before s ts)
+    pub more_lengths_sound : (n : ℕ) (before : List Expression) (s : Span) (ts : List Token) → MoreLengths h before s ts (more_lengths_at texts h p body n before s ts)
     unfolding more_lengths_at
     more_lengths_sound zero before s ts = no_more refl
     more_lengths_sound (suc n) before s ts =
