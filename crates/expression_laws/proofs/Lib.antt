@@ -8,3 +8,4 @@ pub mod Arrays
 pub mod Moves
 pub mod Inner
 pub mod Atoms
+pub mod NewArrays
