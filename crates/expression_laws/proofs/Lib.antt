@@ -9,3 +9,4 @@ pub mod Moves
 pub mod Inner
 pub mod Atoms
 pub mod NewArrays
+pub mod NoCasts
