@@ -64,7 +64,7 @@ pub data Primary (o : Read Expression) (e : Expression) (rest : List Token) : Ty
   exactly : o ≡ Some (e, rest) → Primary o e rest
   grabbed : {u : Expression} {less : List Token} → o ≡ Some (u, less) → Grabs e rest less → Primary o e rest
 
-open_paren_of : (names texts : List (List ℕ)) {es : Expressions} {c : Span} {ts rest : List Token} → SpellsArguments names texts es c ts rest → (a : List Token) × Front (kind.Symbol symbol.OpenParen) ts a × (length rest < length ts)
+pub open_paren_of : (names texts : List (List ℕ)) {es : Expressions} {c : Span} {ts rest : List Token} → SpellsArguments names texts es c ts rest → (a : List Token) × Front (kind.Symbol symbol.OpenParen) ts a × (length rest < length ts)
 open_paren_of names texts (no_arguments o c) = (_, front o, omega arith)
 open_paren_of names texts (some_arguments o l c) = (_, front o, let b = size-SpellsList names texts l in omega arith)
 

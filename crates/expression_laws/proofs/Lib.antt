@@ -10,3 +10,4 @@ pub mod Inner
 pub mod Atoms
 pub mod NewArrays
 pub mod NoCasts
+pub mod Postfix
