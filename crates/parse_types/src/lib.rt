@@ -1,0 +1,14 @@
+//! What the parser reads without looking at an expression: names, types, modifiers, type parameters, formal parameters, and
+//! the look-ahead over them.
+#![tactic(auto)]
+
+mod ahead;
+mod naming;
+mod rest_of_type;
+
+pub use ahead::{
+    begins_operand, behind, behind_word, first_span, identifier, is_identifier, is_symbol, is_word,
+    join,
+};
+pub use naming::{dims, name, names, pair, part};
+pub use rest_of_type::{Rest, closes};
