@@ -1,15 +1,16 @@
 -- The loops of the reading functions, at a count n of which i are used.
-use Rattle.std.proofs.Common.{◌≡◌, ℕ, zero, suc, ◌+◌, ◌-◌, ◌<◌, ◌≤◌, Option, Some, None, List, [], ◌∷◌, ◌++◌, map, refl, sym, ap, ◌∙◌, arith}
+use Rattle.std.proofs.Common.{◌≡◌, ℕ, zero, suc, ◌+◌, ◌-◌, ◌<◌, ◌≤◌, Option, Some, None, List, [], ◌∷◌, ◌++◌, map, max, sub-one, refl, sym, ap, ◌∙◌, arith}
 use Rattle.std.proofs.lemmas.List.{map_push}
 use Rattle.je_base.specs.declared.span.Span.{Span}
 use Rattle.je_token.specs.declared.symbol.Symbol.TheVariants as symbol
 use Rattle.je_token.specs.declared.token.Token.{Token}
 use Rattle.je_ast.specs.declared.name.Identifier.{Identifier}
 use Rattle.je_ast.specs.declared.name.Name.{Name}
-use Rattle.je_ast.specs.Types.{QualifiedName, name_view}
+use Rattle.je_ast.specs.declared.ty_name.TyName.{TyName}
+use Rattle.je_ast.specs.Types.{QualifiedName, name_view, TypeName, type_names, type_view, type_views_of, type_height, types_height}
 use Rattle.je_ast.specs.Spans.{join}
-use Rattle.parse_laws.specs.way.Tokens.{with, ◌>>=◌, behind}
-use Rattle.parse_laws.specs.way.Types.{part_at, parts_at, name_at, more_names_at, pair_at, more_dims_at}
+use Rattle.parse_laws.specs.way.Tokens.{Read, with, ◌>>=◌, behind, closes_at}
+use Rattle.parse_laws.specs.way.Types.{part_at, parts_at, name_at, more_names_at, pair_at, dims_at, more_dims_at, type_argument_at, type_arguments_at, reference_layer, reference_at, type_layer, type_at}
 
 pub parts_step : (n i : ℕ) (front : List Identifier) (s : Span) (ts : List Token) → i < n →
     parts_at (n - i) front s ts ≡ with (part_at ts) (λ x. parts_at (n - (i + 1)) (front ++ x.0 ∷ []) (join s x.0.span) x.1) (record { parts = front; span = s }, ts)
@@ -52,3 +53,51 @@ dims_none n i count s ts le =
 
 pub names_push : (ns : List Name) (n : Name) → map name_view (ns ++ n ∷ []) ≡ map name_view ns ++ name_view n ∷ []
 names_push ns n = map_push name_view ns n
+
+pub dims_stop : (s : Span) (ts : List Token) → behind symbol.OpenBracket ts ≡ None → dims_at s ts ≡ (0, s, ts)
+unfolding dims_at more_dims_at
+dims_stop s [] none = refl
+dims_stop s (t ∷ ts) none = rw none refl
+
+pub type_at_zero : (ts : List Token) → type_at 0 ts ≡ None
+unfolding type_at
+type_at_zero ts = refl
+
+pub type_at_step : (b : ℕ) (ts : List Token) → 0 < b → type_at b ts ≡ type_layer (type_at (b - 1)) ts
+unfolding type_at
+type_at_step zero ts h = absurd (omega arith)
+type_at_step (suc b) ts h = rw sub-one refl
+
+pub reference_at_zero : (ts : List Token) → reference_at 0 ts ≡ None
+unfolding reference_at
+reference_at_zero ts = refl
+
+pub reference_at_step : (b : ℕ) (ts : List Token) → 0 < b → reference_at b ts ≡ reference_layer (type_at (b - 1)) ts
+unfolding reference_at
+reference_at_step zero ts h = absurd (omega arith)
+reference_at_step (suc b) ts h = rw sub-one refl
+
+pub arguments_step : (p : List Token → Read TypeName) (n i : ℕ) (front : List TypeName) (ts : List Token) → i < n →
+    type_arguments_at p (n - i) front ts ≡ (type_argument_at p ts >>= λ x.
+    with (behind symbol.Comma x.1) (λ mid. type_arguments_at p (n - (i + 1)) (front ++ x.0 ∷ []) mid)
+    (closes_at x.1 >>= λ c. Some (type_names (front ++ x.0 ∷ []), c.0, c.1)))
+unfolding type_arguments_at
+arguments_step p n i front ts lt =
+    let eq : n - i ≡ suc (n - (i + 1)) = omega arith in
+    rw eq refl
+
+pub arguments_none : (p : List Token → Read TypeName) (n i : ℕ) (front : List TypeName) (ts : List Token) → n ≤ i → type_arguments_at p (n - i) front ts ≡ None
+unfolding type_arguments_at
+arguments_none p n i front ts le =
+    let eq : n - i ≡ 0 = omega arith in
+    rw eq refl
+
+pub types_push : (ts : List TyName) (t : TyName) → map type_view (ts ++ t ∷ []) ≡ map type_view ts ++ type_view t ∷ []
+types_push ts t = map_push type_view ts t
+
+pub types_height_push : (ts : List TypeName) (t : TypeName) → types_height (type_names (ts ++ t ∷ [])) ≡ max (types_height (type_names ts)) (type_height t)
+types_height_push [] t = omega arith
+types_height_push (u ∷ ts) t = omega (arith, types_height_push ts t)
+
+pub views_height_push : (ts us : List TyName) (t : TyName) → us ≡ ts ++ t ∷ [] → types_height (type_views_of us) ≡ max (types_height (type_views_of ts)) (type_height (type_view t))
+views_height_push ts us t pushed = rw (pushed, types_push ts t) (types_height_push (map type_view ts) (type_view t))

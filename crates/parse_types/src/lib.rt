@@ -5,6 +5,7 @@
 mod ahead;
 mod naming;
 mod rest_of_type;
+mod types;
 
 pub use ahead::{
     begins_operand, behind, behind_word, first_span, identifier, is_identifier, is_symbol, is_word,
@@ -12,3 +13,4 @@ pub use ahead::{
 };
 pub use naming::{dims, name, names, pair, part};
 pub use rest_of_type::{Rest, closes};
+pub use types::{FoundType, primitive, reference, type_name};

@@ -13,7 +13,7 @@ use Rattle.je_ast.specs.declared.ty_name.Primitive.TheVariants as prim
 use Rattle.je_ast.specs.declared.decl.Modifier.{Modifier}
 use Rattle.je_ast.specs.declared.decl.ModifierKind.{ModifierKind}
 use Rattle.je_ast.specs.declared.decl.ModifierKind.TheVariants as modifier
-use Rattle.je_ast.specs.Types.{QualifiedName, TypeName, TypeNames, primitive, class_type, no_types, more_types, TypeParameter, FormalParameter}
+use Rattle.je_ast.specs.Types.{QualifiedName, TypeName, TypeNames, primitive, class_type, no_types, type_names, TypeParameter, FormalParameter}
 use Rattle.je_ast.specs.Spans.{join}
 use Rattle.je_grammar.specs.Tokens.{identifier, first_span}
 use Rattle.je_grammar.specs.Types.{is_plain_primitive}
@@ -62,10 +62,6 @@ primitive_kind _ = None
 abbrev pub primitive_at : List Token → Read Primitive
 primitive_at [] = None
 primitive_at (t ∷ ts) = primitive_kind t.kind >>= λ p. Some (p, ts)
-
-abbrev pub type_names : List TypeName → TypeNames
-type_names [] = no_types
-type_names (t ∷ ts) = more_types t (type_names ts)
 
 -- a primitive type with the brackets behind its word
 unfoldable pub primitive_type_at : Primitive → Span → List Token → TypeName × List Token

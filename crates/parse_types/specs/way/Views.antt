@@ -1,7 +1,7 @@
 -- What the functions give, without where it lies in memory.
-use Rattle.std.specs.Prelude.{◌≡◌, ℕ, ◌≤◌, ◌∷◌, List, map, Option, Some, None, option_map, IfSome}
+use Rattle.std.specs.Prelude.{suc, ◌≡◌, ℕ, ◌≤◌, ◌∷◌, List, map, Option, Some, None, option_map, IfSome}
 use Rattle.std.specs.declared.alloc.Global.{Global}
-use Rattle.std.specs.Prelude.{Vec}
+use Rattle.std.specs.Prelude.{suc, Vec}
 use denote.Ref.{Bor}
 use Rattle.je_token.specs.declared.symbol.Symbol.TheVariants as symbol
 use Rattle.je_grammar.specs.Tokens.{left_of}
@@ -10,7 +10,10 @@ use Rattle.parse_types.specs.declared.rest_of_type.Rest.TheVariants as rest
 use Rattle.je_base.specs.declared.span.Span.{Span}
 use Rattle.je_token.specs.declared.token.Token.{Token}
 use Rattle.je_ast.specs.declared.name.Name.{Name}
-use Rattle.je_ast.specs.Types.{QualifiedName, name_view}
+use Rattle.je_ast.specs.Types.{QualifiedName, name_view, TypeName, TypeNames, class_type, type_view, type_views_of, type_height, types_height}
+use Rattle.parse_types.specs.declared.types.FoundType.{FoundType}
+use Rattle.parse_types.specs.declared.types.ClassType.{ClassType}
+use Rattle.parse_types.specs.declared.types.Arguments.{Arguments}
 use Rattle.parse_laws.specs.way.Tokens.{Read}
 
 abbrev pub rest_of : Option (Bor (List Token)) → Option (List Token)
@@ -42,3 +45,31 @@ whole_of (rest.ShiftRight t ts) = None
 
 abbrev pub seen_close : Option (Span × Rest) → Read Span
 seen_close o = option_map (λ x. (x.0, seen_rest x.1)) o
+
+abbrev pub seen_dims_rest : ℕ × Span × Rest → ℕ × Span × List Token
+seen_dims_rest d = (d.0, d.1, seen_rest d.2)
+
+abbrev pub seen_found_type : FoundType → TypeName × List Token
+seen_found_type x = (type_view x.tree, seen_rest x.rest)
+
+abbrev pub seen_type : Option FoundType → Read TypeName
+seen_type o = option_map seen_found_type o
+
+-- the height is right and within the limit
+abbrev pub HasTypeHeight : ℕ → Option FoundType → Type 0
+HasTypeHeight limit o = IfSome o (λ x. (x.height ≡ type_height (type_view x.tree)) × (x.height ≤ limit))
+
+abbrev pub seen_class : ClassType → TypeName × List Token
+seen_class x = (class_type (name_view x.name) (type_views_of x.args.items) 0 x.span, seen_rest x.rest)
+
+abbrev pub seen_reference : Option ClassType → Read TypeName
+seen_reference o = option_map seen_class o
+
+abbrev pub ReferenceHeight : ℕ → Option ClassType → Type 0
+ReferenceHeight limit o = IfSome o (λ x. (x.height ≡ suc (types_height (type_views_of x.args.items))) × (x.height ≤ limit))
+
+abbrev pub seen_arguments : Option Arguments → Option (TypeNames × Span × List Token)
+seen_arguments o = option_map (λ x. (type_views_of x.list.items, x.close, seen_rest x.rest)) o
+
+abbrev pub ArgumentsHeight : ℕ → Option Arguments → Type 0
+ArgumentsHeight limit o = IfSome o (λ x. (x.height ≡ types_height (type_views_of x.list.items)) × (x.height ≤ limit))
