@@ -1,3 +1,4 @@
 pub mod Same
 pub mod Steps
 pub mod Views
+pub mod LookPast

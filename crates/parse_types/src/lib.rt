@@ -4,6 +4,7 @@
 
 mod ahead;
 mod naming;
+mod past;
 mod rest_of_type;
 mod types;
 
@@ -12,5 +13,6 @@ pub use ahead::{
     join,
 };
 pub use naming::{dims, name, names, pair, part};
+pub use past::{is_cast, past_dims, past_name, past_type};
 pub use rest_of_type::{Rest, closes};
 pub use types::{FoundType, primitive, reference, type_name};

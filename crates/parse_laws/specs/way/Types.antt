@@ -13,7 +13,8 @@ use Rattle.je_ast.specs.declared.ty_name.Primitive.TheVariants as prim
 use Rattle.je_ast.specs.declared.decl.Modifier.{Modifier}
 use Rattle.je_ast.specs.declared.decl.ModifierKind.{ModifierKind}
 use Rattle.je_ast.specs.declared.decl.ModifierKind.TheVariants as modifier
-use Rattle.je_ast.specs.Types.{QualifiedName, TypeName, TypeNames, primitive, class_type, no_types, type_names, TypeParameter, FormalParameter}
+use Rattle.je_ast.specs.Types.{QualifiedName, TypeName, TypeNames, primitive, class_type, no_types, TypeParameter, FormalParameter}
+pub use Rattle.je_ast.specs.Types.{type_names}
 use Rattle.je_ast.specs.Spans.{join}
 use Rattle.je_grammar.specs.Tokens.{identifier, first_span}
 use Rattle.je_grammar.specs.Types.{is_plain_primitive}
