@@ -1,11 +1,11 @@
 -- What looks past a name, brackets or a type is behind what is read there.
-use Rattle.std.proofs.Common.{◌≡◌, ℕ, zero, suc, ◌+◌, ◌-◌, ◌<◌, ◌≤◌, Option, Some, None, option_map, List, [], ◌∷◌, ◌++◌, length, Bool, true, false, refl, sym, ap, ◌∙◌, arith, sub-one, if◌then◌else◌}
+use Rattle.std.proofs.Common.{◌≡◌, ℕ, zero, suc, ◌+◌, ◌-◌, ◌<◌, ◌≤◌, Option, Some, None, option_map, List, [], ◌∷◌, ◌++◌, length, false, refl, ap, arith, sub-one, if◌then◌else◌}
 use Rattle.je_base.specs.declared.span.Span.{Span}
 use Rattle.je_token.specs.declared.symbol.Symbol.TheVariants as symbol
 use Rattle.je_token.specs.declared.token.Token.{Token}
 use Rattle.je_ast.specs.declared.name.Identifier.{Identifier}
 use Rattle.je_ast.specs.declared.ty_name.Primitive.{Primitive}
-use Rattle.je_ast.specs.Types.{QualifiedName, TypeName, TypeNames, class_type, primitive, no_types, type_names}
+use Rattle.je_ast.specs.Types.{QualifiedName, TypeName, TypeNames, class_type, primitive, no_types}
 use Rattle.je_ast.specs.Spans.{join}
 use Rattle.je_grammar.specs.Tokens.{first_span}
 use Rattle.je_grammar.specs.Types.{is_plain_primitive}

@@ -2,8 +2,9 @@
 
 ghost use Rattle.std.specs.Prelude.{◌≡◌, None, IfNone};
 ghost use Rattle.je_token.specs.declared.symbol.Symbol.TheVariants as symbol;
+ghost use Rattle.je_token.specs.declared.keyword.Keyword.TheVariants as word;
 ghost use Rattle.je_grammar.specs.Tokens.{first_of as the_first_of, left_of as the_left_of};
-ghost use Rattle.parse_laws.specs.way.Tokens.{behind as behind_at, identifier_at, closes_at, closing as closing_at};
+ghost use Rattle.parse_laws.specs.way.Tokens.{behind as behind_at, behind_word as behind_word_at, identifier_at, closes_at, closing as closing_at};
 ghost use Rattle.parse_types.specs.way.Views.{rest_of, seen_rest, whole_of, seen_close};
 
 use crate::ahead::behind;
@@ -29,6 +30,8 @@ impl<'a> Rest<'a> {
         ensures no_bracket { IfNone result (behind_at symbol.OpenBracket (seen_rest self.entry) ≡ None) }
         ensures no_parenthesis { IfNone result (behind_at symbol.OpenParen (seen_rest self.entry) ≡ None) }
         ensures no_brace { IfNone result (behind_at symbol.OpenBrace (seen_rest self.entry) ≡ None) }
+        ensures no_extends { IfNone result (behind_word_at word.Extends (seen_rest self.entry) ≡ None) }
+        ensures no_implements { IfNone result (behind_word_at word.Implements (seen_rest self.entry) ≡ None) }
         ensures no_comma { IfNone result (behind_at symbol.Comma (seen_rest self.entry) ≡ None) }
     {
         match self {

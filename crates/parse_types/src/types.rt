@@ -3,8 +3,8 @@
 ghost use Rattle.std.specs.Prelude.{◌≡◌, ◌+◌, ◌-◌, ◌<◌, ◌≤◌, ◌^◌, IfOk, length, [], suc};
 ghost use Rattle.je_ast.specs.Types.{type_view, type_views_of, type_height as height_of, types_height};
 ghost use Rattle.je_grammar.specs.Types.{is_plain_primitive as is_plain};
-ghost use Rattle.parse_laws.specs.way.Types.{dims_at, primitive_at, primitive_type_at, with_dims as dims_behind_it, type_argument_at, type_arguments_at, reference_layer, reference_at, type_at};
-ghost use Rattle.parse_types.specs.way.Views.{read_of, seen_rest, seen_dims_rest, seen_type, seen_found_type, HasTypeHeight, seen_reference, seen_class, ReferenceHeight, seen_arguments, ArgumentsHeight};
+ghost use Rattle.parse_laws.specs.way.Types.{dims_at, primitive_at, primitive_type_at, with_dims as dims_behind_it, type_argument_at, type_arguments_at, reference_layer, reference_at, type_at, element_at, plain_type_at};
+ghost use Rattle.parse_types.specs.way.Views.{read_of, seen_rest, seen_dims_rest, seen_type, seen_found_type, HasTypeHeight, seen_reference, seen_class, ReferenceHeight, seen_arguments, ArgumentsHeight, seen_plain, seen_plain_type, IsLow};
 
 use crate::ahead::{behind, first_span, join};
 use crate::naming::{dims, name};
@@ -73,10 +73,13 @@ fn dims_behind<'a>(span: Span, rest: Rest<'a>) -> (usize, Span, Rest<'a>)
 
 // A primitive type, whose word has this span, with the brackets that follow it.
 #[tactic(auto, unfolding(parse_laws::specs::way::Types::primitive_type_at))]
-fn primitive_type<'a>(primitive: Primitive, word: Span, tokens: &'a [Token]) -> FoundType<'a>
-    ensures value { seen_found_type result ≡ primitive_type_at primitive word tokens.now }
-    ensures height { result.height ≡ height_of (type_view result.tree) }
-    ensures one { result.height ≡ 1 }
+fn primitive_type<'a>(
+    primitive: Primitive,
+    word: Span,
+    tokens: &'a [Token],
+) -> (TyName, &'a [Token])
+    ensures value { seen_plain result ≡ primitive_type_at primitive word tokens.now }
+    ensures height { height_of (type_view result.0) ≡ 1 }
 {
     let (count, span, rest) = dims(word, tokens);
     let tree = make_ty_name(TyName::Primitive {
@@ -84,11 +87,7 @@ fn primitive_type<'a>(primitive: Primitive, word: Span, tokens: &'a [Token]) -> 
         dims: count,
         span,
     });
-    FoundType {
-        tree,
-        height: 1,
-        rest: Rest::Whole { tokens: rest },
-    }
+    (tree, rest)
 }
 
 // A class type with the brackets that follow it.
@@ -121,7 +120,12 @@ pub fn type_name<'a>(
         return Ok(None);
     }
     if let Some((primitive, rest)) = primitive(tokens) {
-        return Ok(Some(primitive_type(primitive, first_span(tokens), rest)));
+        let (tree, rest) = primitive_type(primitive, first_span(tokens), rest);
+        return Ok(Some(FoundType {
+            tree,
+            height: 1,
+            rest: Rest::Whole { tokens: rest },
+        }));
     }
     let Some(class) = class_reference(alloc, tokens, most - 1)? else {
         return Ok(None);
@@ -253,4 +257,47 @@ fn is_plain_primitive(ty: &TyName) -> bool
     ensures { result ≡ is_plain (type_view ty.now) }
 {
     matches!(ty, TyName::Primitive { dims: 0, .. })
+}
+
+/// `Prim | Name`, of height 1.
+#[tactic(auto, unfolding(parse_laws::specs::way::Types::element_at))]
+pub fn element<'a>(
+    alloc: Global,
+    tokens: &'a [Token],
+) -> Result<Option<(TyName, &'a [Token])>, Memory>
+    ensures value { IfOk result (λ o. seen_plain_type o ≡ element_at tokens.now) }
+    ensures height { IfOk result IsLow }
+{
+    if let Some((primitive, rest)) = primitive(tokens) {
+        let tree = make_ty_name(TyName::Primitive {
+            primitive,
+            dims: 0,
+            span: first_span(tokens),
+        });
+        return Ok(Some((tree, rest)));
+    }
+    let Some((name, rest)) = name(alloc, tokens)? else {
+        return Ok(None);
+    };
+    let span = name.span;
+    Ok(Some((make_class_type(name, Vec::new(alloc), 0, span), rest)))
+}
+
+/// A type without type arguments, of height 1: `(Prim | Name) {"[" "]"}`.
+#[tactic(auto, unfolding(parse_laws::specs::way::Types::plain_type_at))]
+pub fn plain_type<'a>(
+    alloc: Global,
+    tokens: &'a [Token],
+) -> Result<Option<(TyName, &'a [Token])>, Memory>
+    ensures value { IfOk result (λ o. seen_plain_type o ≡ plain_type_at tokens.now) }
+    ensures height { IfOk result IsLow }
+{
+    if let Some((primitive, rest)) = primitive(tokens) {
+        return Ok(Some(primitive_type(primitive, first_span(tokens), rest)));
+    }
+    let Some((name, rest)) = name(alloc, tokens)? else {
+        return Ok(None);
+    };
+    let (count, span, rest) = dims(name.span, rest);
+    Ok(Some((make_class_type(name, Vec::new(alloc), count, span), rest)))
 }

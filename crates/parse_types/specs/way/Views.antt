@@ -1,7 +1,7 @@
 -- What the functions give, without where it lies in memory.
-use Rattle.std.specs.Prelude.{suc, ◌≡◌, ℕ, ◌≤◌, ◌∷◌, List, map, Option, Some, None, option_map, IfSome}
+use Rattle.std.specs.Prelude.{Bool, suc, ◌≡◌, ℕ, ◌≤◌, ◌∷◌, List, map, Option, Some, None, option_map, IfSome}
 use Rattle.std.specs.declared.alloc.Global.{Global}
-use Rattle.std.specs.Prelude.{suc, Vec}
+use Rattle.std.specs.Prelude.{Bool, suc, Vec}
 use denote.Ref.{Bor}
 use Rattle.je_token.specs.declared.symbol.Symbol.TheVariants as symbol
 use Rattle.je_grammar.specs.Tokens.{left_of}
@@ -10,7 +10,11 @@ use Rattle.parse_types.specs.declared.rest_of_type.Rest.TheVariants as rest
 use Rattle.je_base.specs.declared.span.Span.{Span}
 use Rattle.je_token.specs.declared.token.Token.{Token}
 use Rattle.je_ast.specs.declared.name.Name.{Name}
-use Rattle.je_ast.specs.Types.{QualifiedName, name_view, TypeName, TypeNames, class_type, type_view, type_views_of, type_height, types_height}
+use Rattle.je_ast.specs.Types.{QualifiedName, name_view, TypeName, TypeNames, class_type, type_view, type_views_of, type_height, types_height, FormalParameter, formal_view}
+use Rattle.je_ast.specs.declared.ty_name.TyName.{TyName}
+use Rattle.je_ast.specs.declared.decl.Formal.{Formal}
+use Rattle.je_ast.specs.declared.decl.Modifier.{Modifier}
+use Rattle.parse_types.specs.declared.found.Found.{Found}
 use Rattle.parse_types.specs.declared.types.FoundType.{FoundType}
 use Rattle.parse_types.specs.declared.types.ClassType.{ClassType}
 use Rattle.parse_types.specs.declared.types.Arguments.{Arguments}
@@ -73,3 +77,30 @@ seen_arguments o = option_map (λ x. (type_views_of x.list.items, x.close, seen_
 
 abbrev pub ArgumentsHeight : ℕ → Option Arguments → Type 0
 ArgumentsHeight limit o = IfSome o (λ x. (x.height ≡ types_height (type_views_of x.list.items)) × (x.height ≤ limit))
+
+abbrev pub seen_plain : TyName × Bor (List Token) → TypeName × List Token
+seen_plain x = (type_view x.0, x.1.now)
+
+abbrev pub seen_plain_type : Option (TyName × Bor (List Token)) → Read TypeName
+seen_plain_type o = option_map seen_plain o
+
+-- a type without type arguments
+abbrev pub IsLow : Option (TyName × Bor (List Token)) → Type 0
+IsLow o = IfSome o (λ x. type_height (type_view x.0) ≡ 1)
+
+-- what was read, where trees are seen by `see`
+abbrev pub seen : {T A : Type 0} → (T → A) → Option (Found T) → Read A
+seen see o = option_map (λ x. (see x.tree, x.rest.now)) o
+
+-- the height is right and within the limit
+abbrev pub HasHeight : {T : Type 0} → (T → ℕ) → ℕ → Option (Found T) → Type 0
+HasHeight height_of limit o = IfSome o (λ x. (x.height ≡ height_of x.tree) × (x.height ≤ limit))
+
+abbrev pub formals_view : Vec Formal Global → List FormalParameter
+formals_view fs = map formal_view fs.items
+
+abbrev pub seen_final : Bool × Bor (List Token) → Bool × List Token
+seen_final x = (x.0, x.1.now)
+
+abbrev pub seen_modifiers : Vec Modifier Global × Bor (List Token) → List Modifier × List Token
+seen_modifiers x = (x.0.items, x.1.now)

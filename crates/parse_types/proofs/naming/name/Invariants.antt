@@ -1,4 +1,4 @@
-use Rattle.std.proofs.Common.{◌≡◌, ◌-◌, ◌≤◌, Some, length}
+use Rattle.std.proofs.Common.{◌≡◌, ◌-◌, Some, length}
 use Rattle.parse_laws.specs.way.Types.{name_at, parts_at}
 use Rattle.parse_types.proofs.naming.name.Given as goal
 

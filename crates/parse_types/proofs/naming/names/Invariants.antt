@@ -1,4 +1,4 @@
-use Rattle.std.proofs.Common.{◌≡◌, ◌-◌, ◌≤◌, map, length}
+use Rattle.std.proofs.Common.{◌≡◌, ◌-◌, map, length}
 use Rattle.je_ast.specs.Types.{name_view}
 use Rattle.parse_laws.specs.way.Types.{names_at, more_names_at}
 use Rattle.parse_types.proofs.naming.names.Given as goal
