@@ -1,5 +1,5 @@
 -- Which token stands first, where its kind was tested.
-use Rattle.std.proofs.Common.{◌≡◌, ℕ, Bool, true, false, cond, List, [], ◌∷◌, get_or, Option, Some, None, IfSome, refl, sym, ap, ◌∙◌, subst}
+use Rattle.std.proofs.Common.{◌≡◌, true, List, [], ◌∷◌, get_or, Some, None, IfSome, refl, sym, ap, ◌∙◌, subst}
 use Rattle.std.proofs.lemmas.Bool.{eqb-true}
 use Rattle.je_base.specs.declared.span.Span.{Span}
 use Rattle.je_token.specs.declared.keyword.Keyword.{Keyword}
@@ -10,7 +10,7 @@ use Rattle.je_token.specs.declared.token.Token.{Token}
 use Rattle.je_token.specs.declared.token.TokenKind.{TokenKind}
 use Rattle.je_token.specs.declared.token.TokenKind.TheVariants as kind
 use Rattle.je_ast.specs.declared.name.Identifier.{Identifier}
-use Rattle.je_grammar.specs.Tokens.{Is, it_is, IsWord, IsSymbol, IsIdentifier, identifier, Closes, one_closes, first_of_two, first_of_three}
+use Rattle.je_grammar.specs.Tokens.{Is, it_is, IsIdentifier, identifier, Closes, one_closes, first_of_two, first_of_three}
 use Rattle.parse_laws.specs.way.Tokens.{word_number, symbol_number, same, behind_kind, identifier_at, closing, closes_at}
 use Rattle.type_laws.proofs.Rules.{choose}
 

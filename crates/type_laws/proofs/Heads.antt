@@ -1,23 +1,20 @@
 -- Lists of names and types, formal parameters, type parameters, and what stands in heads.
-use Rattle.std.proofs.Common.{◌≡◌, ℕ, zero, suc, ◌+◌, ◌<◌, ◌≤◌, max, Bool, true, false, List, [], ◌∷◌, ◌++◌, length, Option, Some, None, IfSome, refl, sym, ap, ◌∙◌, subst, arith, append_assoc}
+use Rattle.std.proofs.Common.{◌≡◌, ℕ, zero, suc, ◌<◌, ◌≤◌, max, Bool, true, false, List, [], ◌∷◌, ◌++◌, length, Option, Some, None, IfSome, refl, sym, ap, ◌∙◌, subst, arith, append_assoc}
 use Rattle.je_base.specs.declared.span.Span.{Span}
-use Rattle.je_token.specs.declared.keyword.Keyword.{Keyword}
 use Rattle.je_token.specs.declared.keyword.Keyword.TheVariants as word
 use Rattle.je_token.specs.declared.symbol.Symbol.TheVariants as symbol
 use Rattle.je_token.specs.declared.token.Token.{Token}
 use Rattle.je_token.specs.declared.token.TokenKind.TheVariants as kind
 use Rattle.je_ast.specs.declared.name.Identifier.{Identifier}
-use Rattle.je_ast.specs.declared.ty_name.Primitive.{Primitive}
 use Rattle.je_ast.specs.declared.ty_name.Primitive.TheVariants as prim
 use Rattle.je_ast.specs.Types.{QualifiedName, TypeName, TypeNames, class_type, no_types, more_types, TypeParameter, FormalParameter, type_height, types_height}
 use Rattle.je_ast.specs.Height.{type_height_if, parameters_height, formals_height}
-use Rattle.je_grammar.specs.Tokens.{it_is, IsWord, IsSymbol, IsIdentifier, identifier, first_span, Closes, one_closes, first_of_two, first_of_three}
-use Rattle.je_grammar.specs.Types.{SpellsName, simple_name, qualified_name, SpellsNames, last_name, more_names, SpellsDims, primitive_word, SpellsTypeName, primitive_type, reference_type, SpellsRef, plain_ref, ref_with_arguments, SpellsRefs, last_ref, more_refs, SpellsTypeParameter, plain_parameter, bounded_parameter, SpellsMoreTypeParameters, last_parameter, more_parameters, SpellsTypeParameters, no_parameters, some_parameters, SpellsFinal, not_final, is_final, SpellsFormal, formal, SpellsMoreFormals, last_formal, more_formals, SpellsFormals, no_formals, some_formals, SpellsThrows, no_throws, some_throws}
+use Rattle.je_grammar.specs.Tokens.{it_is, identifier, Closes, one_closes, first_of_two, first_of_three}
+use Rattle.je_grammar.specs.Types.{SpellsName, SpellsNames, last_name, more_names, SpellsDims, reference_type, SpellsRef, SpellsRefs, last_ref, more_refs, SpellsTypeParameter, plain_parameter, bounded_parameter, SpellsMoreTypeParameters, last_parameter, more_parameters, SpellsTypeParameters, no_parameters, some_parameters, SpellsFinal, not_final, is_final, SpellsFormal, formal, SpellsMoreFormals, last_formal, more_formals, SpellsFormals, no_formals, some_formals, SpellsThrows, no_throws, some_throws}
 use Rattle.je_grammar.specs.Grammar.{SpellsExtends, no_extends, some_extends, SpellsImplements, no_implements, some_implements, SpellsExtendsAll, extends_nothing, extends_all}
 use Rattle.je_grammar.proofs.AtLeastOne.{types_spell_some}
-use Rattle.parse_laws.specs.way.Tokens.{Read, ◌>>=◌, with, is_some, behind_kind, behind, behind_word, is_symbol, is_word, identifier_at, closes_at}
+use Rattle.parse_laws.specs.way.Tokens.{Read, ◌>>=◌, behind, behind_word, is_symbol, is_word, identifier_at, closes_at}
 use Rattle.parse_laws.specs.way.Types.{name_at, more_names_at, names_at, dims_at, type_names, type_at, reference_at, final_at, formal_at, more_formals_at, formals_at, throws_at, parameter_at, more_parameters_at, parameters_at, superclass_at, more_references_at, references_at}
-use Rattle.parse_laws.specs.way.Readers.{itself, longer}
 use Rattle.type_laws.specs.Laws.{names_on, dims_on}
 use Rattle.type_laws.proofs.Rules.{bind, weaken, either, is_none}
 use Rattle.type_laws.proofs.Fronts.{Behind, it_stands, behind_sound, First, a_first, identifier_sound, closes_sound, closes_exact}

@@ -1,17 +1,17 @@
 -- Where a cast and a local variable begin.
-use Rattle.std.proofs.Common.{◌≡◌, ℕ, zero, suc, ◌<◌, ◌≤◌, Bool, true, false, ◌||◌, List, [], ◌∷◌, length, Option, Some, None, IfSome, option_map, refl, sym, ap, ◌∙◌, subst, arith}
+use Rattle.std.proofs.Common.{◌≡◌, ℕ, ◌<◌, Bool, true, false, ◌||◌, List, ◌∷◌, Option, Some, None, IfSome, option_map, refl, ap, arith}
 use Rattle.je_base.specs.declared.span.Span.{Span}
 use Rattle.je_token.specs.declared.symbol.Symbol.TheVariants as symbol
 use Rattle.je_token.specs.declared.token.Token.{Token}
 use Rattle.je_token.specs.declared.token.TokenKind.TheVariants as kind
 use Rattle.je_ast.specs.declared.ty_name.Primitive.{Primitive}
-use Rattle.je_ast.specs.Types.{QualifiedName, TypeName, type_height}
+use Rattle.je_ast.specs.Types.{QualifiedName, TypeName}
 use Rattle.je_ast.specs.Spans.{join}
-use Rattle.je_grammar.specs.Tokens.{it_is, IsSymbol, first_span}
+use Rattle.je_grammar.specs.Tokens.{it_is, first_span}
 use Rattle.je_grammar.specs.Types.{SpellsName, SpellsDims, no_dims, more_dims}
 use Rattle.je_grammar.specs.Context.{begins_operand}
 use Rattle.parse_laws.specs.way.Tokens.{Read, with, is_some, behind_kind, behind, is_identifier}
-use Rattle.parse_laws.specs.way.Types.{pair_at, name_at, dims_at, primitive_at, past_name_at, past_dims_at, is_cast_at, type_at, past_type_at, begins_local_at}
+use Rattle.parse_laws.specs.way.Types.{pair_at, name_at, primitive_at, past_name_at, past_dims_at, is_cast_at, type_at, past_type_at, begins_local_at}
 use Rattle.type_laws.specs.Ahead.{BeginsCast, to_primitive, to_array, to_class, BeginsLocal, begins_local}
 use Rattle.type_laws.specs.Laws.{names_on, dims_on}
 use Rattle.type_laws.proofs.Rules.{either}

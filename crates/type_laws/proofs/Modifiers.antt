@@ -1,7 +1,6 @@
 -- Modifiers.
-use Rattle.std.proofs.Common.{◌≡◌, ℕ, zero, suc, ◌<◌, ◌≤◌, ◌⊎◌, inl, inr, Bool, true, false, ◌&&◌, List, [], ◌∷◌, ◌++◌, length, Option, Some, None, IfSome, refl, sym, ap, ◌∙◌, subst, arith, append_assoc, append-nil, codes, slice_get, nat_eq, cond}
+use Rattle.std.proofs.Common.{◌≡◌, ℕ, zero, suc, ◌<◌, ◌≤◌, inl, inr, Bool, true, false, ◌&&◌, List, [], ◌∷◌, ◌++◌, length, Option, Some, None, IfSome, refl, sym, ap, ◌∙◌, subst, arith, append_assoc, append-nil, codes, slice_get, nat_eq}
 use Rattle.std.proofs.lemmas.Bool.{eqb-true}
-use Rattle.je_base.specs.declared.span.Span.{Span}
 use Rattle.je_token.specs.declared.keyword.Keyword.{Keyword}
 use Rattle.je_token.specs.declared.keyword.Keyword.TheVariants as word
 use Rattle.je_token.specs.declared.symbol.Symbol.TheVariants as symbol
@@ -13,7 +12,7 @@ use Rattle.je_ast.specs.declared.decl.Modifier.{Modifier}
 use Rattle.je_ast.specs.declared.decl.ModifierKind.{ModifierKind}
 use Rattle.je_ast.specs.declared.decl.ModifierKind.TheVariants as modifier
 use Rattle.je_ast.specs.Spans.{join}
-use Rattle.je_grammar.specs.Tokens.{it_is, IsWord, IsSymbol, IsIdentifier, IsOverride, identifier, first_span}
+use Rattle.je_grammar.specs.Tokens.{it_is, first_span}
 use Rattle.je_grammar.specs.Types.{modifier_word, SpellsModifier, override_modifier, word_modifier, SpellsModifiers, no_modifiers, more_modifiers}
 use Rattle.parse_laws.specs.way.Tokens.{Read, ◌>>=◌, with, is_some, behind, identifier_at}
 use Rattle.parse_laws.specs.way.Types.{modifier_kind, word_modifier_at, same_text, override_at, modifier_at, more_modifiers_at, modifiers_at}

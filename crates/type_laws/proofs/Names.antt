@@ -1,5 +1,5 @@
 -- Names, and brackets behind a type.
-use Rattle.std.proofs.Common.{◌≡◌, ℕ, zero, suc, ◌+◌, ◌<◌, ◌≤◌, ◌⊎◌, inl, inr, Bool, true, false, List, [], ◌∷◌, ◌++◌, length, Option, Some, None, IfSome, refl, sym, ap, ◌∙◌, subst, arith, append_assoc}
+use Rattle.std.proofs.Common.{◌≡◌, ℕ, zero, suc, ◌+◌, ◌<◌, ◌≤◌, inl, inr, Bool, false, List, [], ◌∷◌, ◌++◌, length, Some, None, IfSome, refl, sym, ap, ◌∙◌, subst, arith, append_assoc}
 use Rattle.je_base.specs.declared.span.Span.{Span}
 use Rattle.je_token.specs.declared.symbol.Symbol.TheVariants as symbol
 use Rattle.je_token.specs.declared.token.Token.{Token}
@@ -9,7 +9,7 @@ use Rattle.je_ast.specs.Types.{QualifiedName}
 use Rattle.je_ast.specs.Spans.{join}
 use Rattle.je_grammar.specs.Tokens.{it_is, IsSymbol, IsIdentifier, identifier, first_span}
 use Rattle.je_grammar.specs.Types.{SpellsName, simple_name, qualified_name, SpellsDims, no_dims, more_dims}
-use Rattle.parse_laws.specs.way.Tokens.{Read, ◌>>=◌, with, is_some, behind, identifier_at}
+use Rattle.parse_laws.specs.way.Tokens.{Read, with, is_some, behind, identifier_at}
 use Rattle.parse_laws.specs.way.Types.{part_at, parts_at, name_at, pair_at, more_dims_at, dims_at}
 use Rattle.type_laws.specs.Laws.{IsExact, IsExactDims, names_on, dims_on}
 use Rattle.type_laws.proofs.Rules.{bind, weaken, either}

@@ -1,5 +1,5 @@
 -- The heads of classes, interfaces, methods and constructors.
-use Rattle.std.proofs.Common.{◌≡◌, ℕ, zero, suc, ◌+◌, ◌<◌, ◌≤◌, max, Bool, true, false, cond, List, [], ◌∷◌, length, Option, Some, None, IfSome, refl, sym, ap, ◌∙◌, subst, arith}
+use Rattle.std.proofs.Common.{◌≡◌, ℕ, ◌≤◌, true, false, List, ◌∷◌, Option, Some, None, IfSome, refl, arith}
 use Rattle.je_token.specs.declared.keyword.Keyword.{Keyword}
 use Rattle.je_token.specs.declared.keyword.Keyword.TheVariants as word
 use Rattle.je_token.specs.declared.symbol.Symbol.TheVariants as symbol
@@ -9,16 +9,16 @@ use Rattle.je_token.specs.declared.token.TokenKind.TheVariants as kind
 use Rattle.je_ast.specs.declared.name.Identifier.{Identifier}
 use Rattle.je_ast.specs.declared.ty_name.Primitive.TheVariants as prim
 use Rattle.je_ast.specs.Types.{QualifiedName, TypeName, TypeNames, TypeParameter, FormalParameter}
-use Rattle.je_ast.specs.Height.{type_height_if, formals_height}
+use Rattle.je_ast.specs.Height.{type_height_if}
 use Rattle.je_grammar.specs.Tokens.{it_is, IsWord, IsSymbol, IsIdentifier, identifier}
 use Rattle.je_grammar.specs.Types.{SpellsThrows, SpellsResult, void_result, typed_result}
 use Rattle.je_grammar.specs.Grammar.{SpellsExtends, no_extends, some_extends, SpellsImplements, no_implements, some_implements, SpellsExtendsAll, extends_nothing, extends_all}
-use Rattle.parse_laws.specs.way.Tokens.{Read, ◌>>=◌, with, is_some, behind_kind, behind, behind_word, is_symbol, is_word, identifier_at}
+use Rattle.parse_laws.specs.way.Tokens.{◌>>=◌, is_some, behind_kind, behind_word, is_symbol, is_word, identifier_at}
 use Rattle.parse_laws.specs.way.Types.{type_at, formals_at, throws_at, parameters_at, superclass_at, references_at}
 use Rattle.parse_laws.specs.way.Members.{ClassHead, InterfaceHead, MethodHead, ConstructorHead, class_head_at, interface_head_at, result_type_at, method_head_at, constructor_head_at}
 use Rattle.type_laws.specs.Laws.{names_on, dims_on, references_on, types_on, throws_on}
 use Rattle.type_laws.specs.Heads.{SpellsClassHead, class_head, class_height, SpellsInterfaceHead, interface_head, interface_height, SpellsMethodHead, method_head, method_height, SpellsConstructorHead, constructor_head, constructor_height}
-use Rattle.type_laws.proofs.Rules.{bind, weaken, choose, either, is_none, or_split}
+use Rattle.type_laws.proofs.Rules.{bind, weaken, choose, either, or_split}
 use Rattle.type_laws.proofs.Fronts.{Behind, it_stands, behind_sound, First, a_first, identifier_sound}
 use Rattle.type_laws.proofs.Types.{TypeFront, primitive_front, name_front, type_begins, IsType, type_sound, type_complete}
 use Rattle.type_laws.proofs.Heads.{throws_sound, throws_exact, AreImplements, implements_sound, implements_exact, AreExtends, extends_all_sound, extends_all_exact, StopsRefs, IsSuperclass, superclass_sound, superclass_exact, AreAllFormals, formals_sound, formals_exact, AreAllParameters, parameters_sound, parameters_exact}

@@ -1,22 +1,22 @@
 -- The laws, as they are stated.
-use Rattle.std.proofs.Common.{◌≡◌, ℕ, suc, ◌≤◌, max, inl, inr, Bool, true, false, ◌||◌, List, ◌∷◌, length, Option, Some, None, IfSome, option_map, refl, sym, ap, ◌∙◌, subst, arith}
+use Rattle.std.proofs.Common.{◌≡◌, ℕ, ◌≤◌, max, inl, inr, Bool, true, false, ◌||◌, List, Option, Some, None, IfSome, option_map, sym, ap, ◌∙◌, subst, arith}
 use Rattle.je_token.specs.declared.token.Token.{Token}
 use Rattle.je_token.specs.declared.keyword.Keyword.TheVariants as word
 use Rattle.je_token.specs.declared.symbol.Symbol.TheVariants as symbol
-use Rattle.je_ast.specs.Types.{QualifiedName, TypeName, TypeNames, TypeParameter, FormalParameter, type_height, types_height}
+use Rattle.je_ast.specs.Types.{QualifiedName, TypeName, type_height, types_height}
 use Rattle.je_ast.specs.Height.{type_height_if, parameters_height, formals_height}
 use Rattle.je_grammar.specs.Types.{SpellsName, SpellsTypeName, SpellsFormal, SpellsFormals, SpellsThrows, SpellsTypeParameters, SpellsResult}
-use Rattle.je_grammar.specs.Grammar.{SpellsElement, SpellsExtends, SpellsImplements, SpellsExtendsAll}
+use Rattle.je_grammar.specs.Grammar.{SpellsExtends, SpellsImplements, SpellsExtendsAll}
 use Rattle.parse_laws.specs.way.Tokens.{Read, is_symbol, is_word}
-use Rattle.parse_laws.specs.way.Types.{name_at, type_at, reference_at, plain_type_at, element_at, past_type_at, past_name_at, formal_at, formals_at, throws_at, parameters_at, superclass_at, references_at}
+use Rattle.parse_laws.specs.way.Types.{name_at, type_at, reference_at, plain_type_at, past_type_at, past_name_at, formal_at, formals_at, throws_at, parameters_at, superclass_at, references_at}
 use Rattle.parse_laws.specs.way.Readers.{Reads, itself, longer}
-use Rattle.parse_laws.specs.way.Members.{ClassHead, InterfaceHead, MethodHead, ConstructorHead, class_head_at, interface_head_at, result_type_at, method_head_at, constructor_head_at}
-use Rattle.type_laws.specs.Laws.{Within, Sound, Exact, Complete, Longest, Unique, PassesSpelled, PassesEach, IsExact, IsAsLong, SpellsReference, is_reference, SpellsPlainType, names_on, dims_on, references_on, types_on, plain_types_on, throws_on, extends_on, extends_all_on, implements_on, parameters_on, never}
+use Rattle.parse_laws.specs.way.Members.{class_head_at, interface_head_at, result_type_at, method_head_at, constructor_head_at}
+use Rattle.type_laws.specs.Laws.{Within, Sound, Exact, Complete, Longest, Unique, PassesSpelled, PassesEach, IsExact, IsAsLong, declared_height, SpellsReference, is_reference, SpellsPlainType, names_on, dims_on, references_on, types_on, plain_types_on, throws_on, extends_on, extends_all_on, implements_on, parameters_on, never}
 use Rattle.type_laws.specs.Heads.{SpellsClassHead, class_height, SpellsInterfaceHead, interface_height, SpellsMethodHead, method_height, SpellsConstructorHead, constructor_height}
 use Rattle.type_laws.proofs.Rules.{weaken, or_split}
 use Rattle.type_laws.proofs.Names.{name_sound, name_exact, name_complete}
-use Rattle.type_laws.proofs.Types.{Stops, IsType, type_sound, type_exact, type_complete, type_longest, IsReference, reference_sound, reference_exact, reference_longest, IsPlainType, plain_type_sound, plain_type_exact, element_sound, element_exact}
-use Rattle.type_laws.proofs.Heads.{throws_sound, throws_exact, StopsRefs, AreImplements, implements_sound, implements_exact, AreExtends, extends_all_sound, extends_all_exact, IsSuperclass, superclass_sound, superclass_exact, IsFormal, formal_sound, formal_exact, AreAllFormals, formals_sound, formals_exact, AreAllParameters, parameters_sound, parameters_exact}
+use Rattle.type_laws.proofs.Types.{Stops, IsType, type_sound, type_exact, type_complete, type_longest, IsReference, reference_sound, reference_exact, reference_longest, IsPlainType, plain_type_sound, plain_type_exact}
+use Rattle.type_laws.proofs.Heads.{throws_exact, StopsRefs, AreImplements, implements_sound, implements_exact, AreExtends, extends_all_sound, extends_all_exact, IsSuperclass, superclass_sound, superclass_exact, IsFormal, formal_sound, formal_exact, AreAllFormals, formals_sound, formals_exact, AreAllParameters, parameters_sound, parameters_exact}
 use Rattle.type_laws.proofs.Openings.{IsClassHead, class_head_sound, class_head_exact, IsInterfaceHead, interface_head_sound, interface_head_exact, IsResult, result_sound, result_exact, IsMethodHead, method_head_sound, method_head_exact, IsConstructorHead, constructor_head_sound, constructor_head_exact}
 
 -- ---- from one form to another
@@ -126,10 +126,10 @@ past_names_exact_law q ts rest m stops = ap (λ (o : Read QualifiedName). option
 
 -- ---- parts of heads
 
-pub formal_sound_law : (most : ℕ) → Sound (Within SpellsFormal (λ f. type_height f.declared) most) (formal_at most)
-formal_sound_law most ts = weaken (formal_at most ts) (IsFormal most ts) (λ x. Within SpellsFormal (λ f. type_height f.declared) most x.0 ts x.1) (formal_sound most ts) (λ x g. (g.spelled, g.within))
+pub formal_sound_law : (most : ℕ) → Sound (Within SpellsFormal declared_height most) (formal_at most)
+formal_sound_law most ts = weaken (formal_at most ts) (IsFormal most ts) (λ x. Within SpellsFormal declared_height most x.0 ts x.1) (formal_sound most ts) (λ x g. (g.spelled, g.within))
 
-pub formal_complete_law : (most : ℕ) → Complete (Within SpellsFormal (λ f. type_height f.declared) most) dims_on (formal_at most)
+pub formal_complete_law : (most : ℕ) → Complete (Within SpellsFormal declared_height most) dims_on (formal_at most)
 formal_complete_law most f ts rest d stops = formal_exact most d.0 d.1 stops
 
 pub formals_sound_law : (most : ℕ) → Sound (Within SpellsFormals formals_height most) (formals_at most)

@@ -1,5 +1,5 @@
 -- Types, references and type arguments.
-use Rattle.std.proofs.Common.{◌≡◌, ℕ, zero, suc, ◌+◌, ◌<◌, ◌≤◌, max, ◌⊎◌, inl, inr, Bool, true, false, cond, ◌||◌, List, [], ◌∷◌, ◌++◌, length, Option, Some, None, IfSome, refl, sym, ap, ◌∙◌, subst, arith, append_assoc}
+use Rattle.std.proofs.Common.{◌≡◌, ℕ, zero, suc, ◌<◌, ◌≤◌, inl, inr, Bool, true, false, ◌||◌, List, [], ◌∷◌, ◌++◌, length, Some, None, IfSome, refl, sym, ap, ◌∙◌, subst, arith, append_assoc}
 use Rattle.je_base.specs.declared.span.Span.{Span}
 use Rattle.je_token.specs.declared.keyword.Keyword.TheVariants as word
 use Rattle.je_token.specs.declared.symbol.Symbol.TheVariants as symbol
@@ -10,12 +10,12 @@ use Rattle.je_ast.specs.declared.ty_name.Primitive.{Primitive}
 use Rattle.je_ast.specs.declared.ty_name.Primitive.TheVariants as prim
 use Rattle.je_ast.specs.Types.{QualifiedName, TypeName, TypeNames, primitive, class_type, no_types, more_types, type_height, types_height}
 use Rattle.je_ast.specs.Spans.{join}
-use Rattle.je_grammar.specs.Tokens.{Is, it_is, IsWord, IsSymbol, IsIdentifier, first_span, Closes, one_closes, first_of_two, first_of_three}
+use Rattle.je_grammar.specs.Tokens.{it_is, IsWord, IsSymbol, IsIdentifier, first_span, Closes, one_closes, first_of_two, first_of_three}
 use Rattle.je_grammar.specs.Types.{SpellsName, simple_name, qualified_name, SpellsDims, no_dims, more_dims, primitive_word, is_plain_primitive, has_arguments, SpellsTypeName, primitive_type, reference_type, SpellsRef, plain_ref, ref_with_arguments, SpellsTypeArguments, last_argument, more_arguments}
 use Rattle.je_grammar.specs.Grammar.{SpellsElement, primitive_element, class_element}
 use Rattle.je_grammar.proofs.AtLeastOne.{types_spell_some}
-use Rattle.parse_laws.specs.way.Tokens.{Read, ◌>>=◌, with, is_some, behind, is_symbol, closes_at}
-use Rattle.parse_laws.specs.way.Types.{part_at, pair_at, name_at, dims_at, primitive_kind, primitive_at, type_names, primitive_type_at, with_dims, type_argument_at, type_arguments_at, reference_layer, type_layer, type_at, reference_at, element_at, plain_type_at}
+use Rattle.parse_laws.specs.way.Tokens.{Read, ◌>>=◌, with, behind, is_symbol, closes_at}
+use Rattle.parse_laws.specs.way.Types.{name_at, dims_at, primitive_kind, primitive_at, type_names, primitive_type_at, with_dims, type_argument_at, type_arguments_at, reference_layer, type_layer, type_at, reference_at, element_at, plain_type_at}
 use Rattle.parse_laws.specs.way.Readers.{Reads, itself, longer}
 use Rattle.type_laws.specs.Laws.{IsExact, IsExactDims, IsAsLong, names_on, dims_on, plain_types_on}
 use Rattle.type_laws.proofs.Rules.{bind, choose, weaken, either, is_none}

@@ -1,5 +1,5 @@
 -- JLS 8.1, 8.4, 8.8, 9.1: what stands before the body of a class, an interface, a method and a constructor.
-use Rattle.std.specs.Prelude.{ℕ, max, List, ◌∷◌, Option}
+use Rattle.std.specs.Prelude.{ℕ, List, ◌∷◌, Option}
 use Rattle.je_token.specs.declared.keyword.Keyword.TheVariants as word
 use Rattle.je_token.specs.declared.symbol.Symbol.TheVariants as symbol
 use Rattle.je_token.specs.declared.token.Token.{Token}

@@ -1,10 +1,10 @@
 -- What a reading function gives at the front of a list of tokens, beside what a relation of the grammar spells there.
-use Rattle.std.specs.Prelude.{◌≡◌, ℕ, ◌<◌, ◌≤◌, ◌⊎◌, Bool, true, false, ◌||◌, List, length, Option, Some, None, IfSome}
+use Rattle.std.specs.Prelude.{◌≡◌, ℕ, ◌<◌, ◌≤◌, ◌⊎◌, Bool, true, false, ◌||◌, List, length, Option, Some, IfSome}
 use Rattle.je_base.specs.declared.span.Span.{Span}
 use Rattle.je_token.specs.declared.keyword.Keyword.TheVariants as word
 use Rattle.je_token.specs.declared.symbol.Symbol.TheVariants as symbol
 use Rattle.je_token.specs.declared.token.Token.{Token}
-use Rattle.je_ast.specs.Types.{QualifiedName, TypeName, TypeNames, class_type}
+use Rattle.je_ast.specs.Types.{QualifiedName, TypeName, TypeNames, FormalParameter, class_type, type_height}
 use Rattle.je_grammar.specs.Types.{SpellsTypeName, SpellsRef, has_arguments}
 use Rattle.parse_laws.specs.way.Tokens.{Read, is_some, is_symbol, is_word}
 use Rattle.parse_laws.specs.way.Types.{part_at, pair_at, modifier_at}
@@ -63,6 +63,10 @@ pub data SpellsReference : TypeName → List Token → List Token → Type 0 whe
 -- (Prim | Name) Dims: a type without type arguments
 abbrev pub SpellsPlainType : TypeName → List Token → List Token → Type 0
 SpellsPlainType t ts rest = SpellsTypeName t ts rest × (has_arguments t ≡ false)
+
+-- the height of a formal parameter's type, without the brackets behind its name
+abbrev pub declared_height : FormalParameter → ℕ
+declared_height f = type_height f.declared
 
 -- What goes on with a tree that ends before these tokens.
 

@@ -4,13 +4,13 @@ ghost use Rattle.std.specs.Prelude.{◌≡◌, ℕ, true, false, Bool, List};
 ghost use Rattle.je_token.specs.declared.token.Token.{Token};
 ghost use Rattle.je_token.specs.declared.keyword.Keyword.TheVariants as word;
 ghost use Rattle.je_ast.specs.declared.decl.Modifier.{Modifier};
-ghost use Rattle.je_ast.specs.Types.{type_height, types_height};
+ghost use Rattle.je_ast.specs.Types.{types_height};
 ghost use Rattle.je_ast.specs.Height.{type_height_if, parameters_height, formals_height};
 ghost use Rattle.je_grammar.specs.Types.{SpellsModifier, SpellsModifiers, SpellsFinal, SpellsFormal, SpellsFormals, SpellsThrows, SpellsTypeParameters, SpellsResult};
 ghost use Rattle.je_grammar.specs.Grammar.{SpellsExtends, SpellsImplements, SpellsExtendsAll};
 ghost use Rattle.parse_laws.specs.way.Types.{modifier_at, modifiers_at, final_at, formal_at, formals_at, throws_at, parameters_at, superclass_at, references_at};
 ghost use Rattle.parse_laws.specs.way.Members.{class_head_at, interface_head_at, result_type_at, method_head_at, constructor_head_at};
-ghost use Rattle.type_laws.specs.Laws.{Within, Sound, Complete, IsExact, dims_on, types_on, throws_on, extends_on, extends_all_on, implements_on, parameters_on, final_on, modifiers_on, never};
+ghost use Rattle.type_laws.specs.Laws.{Within, Sound, Complete, IsExact, declared_height, dims_on, types_on, throws_on, extends_on, extends_all_on, implements_on, parameters_on, final_on, modifiers_on, never};
 ghost use Rattle.type_laws.specs.Heads.{SpellsClassHead, class_height, SpellsInterfaceHead, interface_height, SpellsMethodHead, method_height, SpellsConstructorHead, constructor_height};
 
 /// Modifiers are read to the last one.
@@ -32,9 +32,9 @@ pub fn modifiers_are_read()
 /// Formal parameters of types of at most a height are read up to their closing bracket.
 pub fn formals_are_read()
     ensures one_sound { (most : ℕ) →
-        Sound (Within SpellsFormal (λ f. type_height f.declared) most) (formal_at most) }
+        Sound (Within SpellsFormal declared_height most) (formal_at most) }
     ensures one_complete { (most : ℕ) →
-        Complete (Within SpellsFormal (λ f. type_height f.declared) most) dims_on (formal_at most) }
+        Complete (Within SpellsFormal declared_height most) dims_on (formal_at most) }
     ensures sound { (most : ℕ) →
         Sound (Within SpellsFormals formals_height most) (formals_at most) }
     ensures complete { (most : ℕ) →
@@ -51,8 +51,8 @@ pub fn throws_are_read()
 pub fn type_parameters_are_read()
     ensures sound { (most : ℕ) →
         Sound (Within SpellsTypeParameters parameters_height most) (parameters_at most) }
-    ensures complete { (most : ℕ) →
-        Complete (Within SpellsTypeParameters parameters_height most) parameters_on (parameters_at most) }
+    ensures complete { (most : ℕ) → Complete
+        (Within SpellsTypeParameters parameters_height most) parameters_on (parameters_at most) }
 {}
 
 /// The types that a class or an interface extends and implements are read to the last one.
@@ -64,11 +64,13 @@ pub fn supertypes_are_read()
     ensures implemented_sound { (most : ℕ) →
         Sound (Within SpellsImplements types_height most) (references_at word.Implements most) }
     ensures implemented_complete { (most : ℕ) → Complete
-        (Within SpellsImplements types_height most) implements_on (references_at word.Implements most) }
+        (Within SpellsImplements types_height most) implements_on
+        (references_at word.Implements most) }
     ensures extended_sound { (most : ℕ) →
         Sound (Within SpellsExtendsAll types_height most) (references_at word.Extends most) }
     ensures extended_complete { (most : ℕ) → Complete
-        (Within SpellsExtendsAll types_height most) extends_all_on (references_at word.Extends most) }
+        (Within SpellsExtendsAll types_height most) extends_all_on
+        (references_at word.Extends most) }
 {}
 
 /// The head of a class or of an interface is read up to its `{`.
@@ -95,6 +97,6 @@ pub fn method_heads_are_read()
         Complete (Within SpellsMethodHead method_height most) throws_on (method_head_at most) }
     ensures constructor_sound { (most : ℕ) →
         Sound (Within SpellsConstructorHead constructor_height most) (constructor_head_at most) }
-    ensures constructor_complete { (most : ℕ) →
-        Complete (Within SpellsConstructorHead constructor_height most) never (constructor_head_at most) }
+    ensures constructor_complete { (most : ℕ) → Complete
+        (Within SpellsConstructorHead constructor_height most) never (constructor_head_at most) }
 {}
