@@ -11,3 +11,4 @@ pub mod Atoms
 pub mod NewArrays
 pub mod NoCasts
 pub mod Postfix
+pub mod Unary

@@ -104,7 +104,7 @@ data Passes (o : Read Expression) (loop : ℕ → Expression → List Token → 
   overtaken : {y : Expression × List Token} → o ≡ Some y → Grabs e rest y.1 → Passes o loop h e rest
 
 -- a loop has come by the expression, or something longer was read
-data Comes (o : Read Expression) (loop : ℕ → Expression → List Token → Expression × List Token) (goes_on : Type 0) (h : ℕ) (e : Expression) (rest : List Token) : Type 0 where
+pub data Comes (o : Read Expression) (loop : ℕ → Expression → List Token → Expression × List Token) (goes_on : Type 0) (h : ℕ) (e : Expression) (rest : List Token) : Type 0 where
   by_it : (n : ℕ) → suc h ≤ height e + n → o ≡ Some (loop n e rest) → Comes o loop goes_on h e rest
   past_it : {y : Expression × List Token} → o ≡ Some y → length y.1 < length rest → goes_on → Comes o loop goes_on h e rest
 
@@ -239,7 +239,7 @@ module _ (names texts : List (List ℕ)) (h : ℕ) (p : Below) (body : List Toke
   comes (is_binary {op = o} _ _ _ _ _) le low = absurd (omega (arith, operators_to o))
   comes {ts = ts} d le low = comes_of ts (passes d (omega arith) low)
 
-  postfix_exact : {e : Expression} {ts rest : List Token} → Spells names texts e ts rest → 14 ≤ level e → height e ≤ suc h → Reads (postfix_at texts h p body ts) e rest (13 ≤ reach rest)
+  pub postfix_exact : {e : Expression} {ts rest : List Token} → Spells names texts e ts rest → 14 ≤ level e → height e ≤ suc h → Reads (postfix_at texts h p body ts) e rest (13 ≤ reach rest)
   postfix_exact {e} {ts} {rest} d le low = elim (comes d le low) [
     | by_it n ge q ↦ elim (increments_move names texts h p body below bodies types n e rest) [
       | still s ↦ itself (q ∙ ap (λ (x : Expression × List Token). Some x) s)
