@@ -12,3 +12,4 @@ pub mod NewArrays
 pub mod NoCasts
 pub mod Postfix
 pub mod Unary
+pub mod Exact
