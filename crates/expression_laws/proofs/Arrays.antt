@@ -70,7 +70,7 @@ module _ (names texts : List (List ℕ)) where
       SpellsArrayInit names texts (tree.array_init es (join (first_span ts) c)) ts rest
   array_in (front o) i = is_array_init o i
 
-  close_brace_begins_no_value : {e : Expression} {ts behind_it rest : List Token} → Front (kind.Symbol symbol.CloseBrace) ts behind_it → ¬ SpellsInit names texts e ts rest
+  pub close_brace_begins_no_value : {e : Expression} {ts behind_it rest : List Token} → Front (kind.Symbol symbol.CloseBrace) ts behind_it → ¬ SpellsInit names texts e ts rest
   close_brace_begins_no_value f (expression_init d) = close_brace_begins_none names texts f d
   close_brace_begins_no_value (front it_is) (array_init (is_array_init o i)) = elim o [ ]
 

@@ -135,7 +135,7 @@ module _ (names texts : List (List ℕ)) (h : ℕ) (p : Below) (body : List Toke
       let twelve = operators_to o in
       let same : min 12 (operator_level o) ≡ operator_level o = omega arith in
       by_it n (omega arith) (q ∙ ap (λ (z : Expression × List Token). Some z) (binary_step_by o n least (min 12 (level l)) l mid low x (omega arith) i e)
-        ∙ ap (λ most. Some (operations_at texts h p body n least most (tree.binary o a.span l r (join (span_of l) (span_of r))) rest)) (sym same))
+      ∙ ap (λ most. Some (operations_at texts h p body n least most (tree.binary o a.span l r (join (span_of l) (span_of r))) rest)) (sym same))
   one_more_operator {o} {a} {l} least ts {mid} above x y low small i (longer {u} {less} e lt g) (by_it (suc n) ge q) =
       let twelve = operators_to o in
       past_it (q ∙ ap (λ (z : Expression × List Token). Some z) (binary_step_by o n least (min 12 (level l)) l mid low x (omega arith) i e))

@@ -89,7 +89,7 @@ module _ (names texts : List (List ℕ)) where
     more_arguments_exact (suc n) before {rest = rest} {c = c} (more_expressions {e} {es} d it_is l) i low le =
         rw (whole d (omega arith) refl)
         (more_arguments_exact n (before ++ e ∷ []) l i (omega arith) (let a = expressions_spell_some names texts _ _ _ d in omega arith)
-          ∙ ap (λ (xs : List Expression). Some (expressions xs, c.span, rest)) (append_assoc before (e ∷ []) (items_of es)))
+        ∙ ap (λ (xs : List Expression). Some (expressions xs, c.span, rest)) (append_assoc before (e ∷ []) (items_of es)))
 
     pub arguments_exact : {es : Expressions} {c : Span} {ts rest : List Token} → SpellsArguments names texts es c ts rest → heights es ≤ h → arguments_at texts h p body ts ≡ Some (es, c, rest)
     unfolding arguments_at

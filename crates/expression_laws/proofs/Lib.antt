@@ -13,3 +13,4 @@ pub mod NoCasts
 pub mod Postfix
 pub mod Unary
 pub mod Exact
+pub mod ArraysExact

@@ -159,7 +159,7 @@ module _ (names texts : List (List ℕ)) (h : ℕ) (p : Below) (body : List Toke
   call_on_by ts low small d t a (comes_by zero ge q) = absurd (omega arith)
   call_on_by {e} {t = t} {es} {c} ts {mid} {rest} low small d i a (comes_by (suc n) ge q) =
       comes_by n (omega arith) (q ∙ ap (λ (x : Expression × List Token). Some x) (select_step n e mid low d i
-        ∙ ap (λ (o : Closed Expressions). with o (λ y. selections n (tree.call_on e (identifier t) y.0 (join (span_of e) y.1)) y.2) (selections n (tree.select e (identifier t) (join (span_of e) t.span)) mid)) (arguments_exact names texts h p body below bodies types a small)))
+      ∙ ap (λ (o : Closed Expressions). with o (λ y. selections n (tree.call_on e (identifier t) y.0 (join (span_of e) y.1)) y.2) (selections n (tree.select e (identifier t) (join (span_of e) t.span)) mid)) (arguments_exact names texts h p body below bodies types a small)))
   call_on_by ts low small d t a (overtaken q g) = let o = open_paren_of names texts a in absurd (no_grabs_before_call g d t o.1)
 
   index_by : {e i : Expression} {o : Token} {c : Token} (ts : List Token) {mid rest : List Token} → height e ≤ h → height i ≤ h → is_bare_creation e ≡ false → IsSymbol symbol.OpenBracket o → Spells names texts i mid (c ∷ rest) → IsSymbol symbol.CloseBracket c →

@@ -1,4 +1,4 @@
-//! Reading expressions: what is read is what the grammar spells.
+//! Reading expressions: what is read is what the grammar spells, and what it spells is read.
 //!
 //! `parse_laws` has one reading function for each production of expressions, over a reader of the height below. The laws here
 //! hold over each such reader that reads right (`IsBelow`), with readers of class bodies and of types that read right
@@ -7,4 +7,4 @@
 
 mod laws;
 
-pub use laws::expressions_are_spelled;
+pub use laws::{arguments_are_read, array_initializers_are_read, expressions_are_read};
