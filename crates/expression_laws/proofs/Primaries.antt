@@ -1,43 +1,31 @@
 -- What is read as an argument, a length, a creation or another primary is spelled.
-use Rattle.std.proofs.Common.{◌≡◌, ℕ, zero, suc, ◌+◌, ◌<◌, ◌≤◌, max, Bool, true, false, not, cond, ℤ, pos, negsuc, List, [], ◌∷◌, ◌++◌, length, Option, Some, None, IfSome, refl, sym, ap, ◌∙◌, subst, arith, ◌&&◌, ◌||◌, nat_lt, ◌⊎◌, inl, inr, append_assoc, append-nil, slice_get}
+use Rattle.std.proofs.Common.{◌≡◌, ℕ, zero, suc, ◌<◌, ◌≤◌, true, false, List, [], ◌∷◌, ◌++◌, length, Option, Some, None, IfSome, refl, ap, ◌∙◌, arith, nat_lt, append_assoc}
 use Rattle.std.specs.Prelude.{if◌then◌else◌}
-use Rattle.std.proofs.lemmas.Bool.{ltb-true, ltb-false, lt-ltb, cases_lt}
+use Rattle.std.proofs.lemmas.Bool.{ltb-true}
 use Rattle.je_base.specs.declared.span.Span.{Span}
-use Rattle.je_token.specs.declared.keyword.Keyword.{Keyword}
 use Rattle.je_token.specs.declared.keyword.Keyword.TheVariants as word
-use Rattle.je_token.specs.declared.symbol.Symbol.{Symbol}
 use Rattle.je_token.specs.declared.symbol.Symbol.TheVariants as symbol
 use Rattle.je_token.specs.declared.token.Token.{Token}
 use Rattle.je_token.specs.declared.token.TokenKind.{TokenKind}
 use Rattle.je_token.specs.declared.token.TokenKind.TheVariants as kind
-use Rattle.je_ast.specs.declared.expr.Literal.{Literal}
-use Rattle.je_ast.specs.declared.expr.Literal.TheVariants as lit
 use Rattle.je_ast.specs.declared.name.Identifier.{Identifier}
-use Rattle.je_ast.specs.declared.operator.BinaryOp.{BinaryOp}
-use Rattle.je_ast.specs.declared.operator.BinaryOp.TheVariants as op
-use Rattle.je_ast.specs.declared.operator.PrefixOp.{PrefixOp}
-use Rattle.je_ast.specs.declared.operator.PrefixOp.TheVariants as prefix_op
-use Rattle.je_ast.specs.declared.operator.PostfixOp.{PostfixOp}
-use Rattle.je_ast.specs.declared.operator.PostfixOp.TheVariants as postfix_op
-use Rattle.je_ast.specs.declared.ty_name.Primitive.{Primitive}
-use Rattle.je_ast.specs.declared.ty_name.Primitive.TheVariants as prim
-use Rattle.je_ast.specs.Types.{QualifiedName, TypeName, TypeNames, primitive, class_type, no_types, more_types, type_height, types_height}
+use Rattle.je_ast.specs.Types.{QualifiedName, TypeName, type_height}
 use Rattle.je_ast.specs.Trees.{Expression, Expressions, Member, Members}
 use Rattle.je_ast.specs.Trees as tree
-use Rattle.je_ast.specs.Height.{height, heights, members_height}
-use Rattle.je_ast.specs.Spans.{join, span_of, type_span}
-use Rattle.je_grammar.specs.Tokens.{Is, it_is, IsWord, IsSymbol, IsIdentifier, identifier, first_span}
-use Rattle.je_grammar.specs.Operators.{level, operator_level, operator_symbol, prefix_symbol, postfix_symbol, assignment_symbol}
-use Rattle.je_grammar.specs.Types.{SpellsName, simple_name, qualified_name, SpellsDims, no_dims, more_dims, SpellsTypeName, primitive_type, reference_type, SpellsRef, plain_ref, primitive_word, has_arguments}
-use Rattle.je_grammar.specs.Context.{is_name, begins_operand, is_cast_before, is_not_plus_minus, is_bare_creation, symbol_begins_operand}
-use Rattle.je_grammar.specs.Grammar.{IsLiteral, int_literal, long_literal, char_literal, text_literal, true_literal, false_literal, null_literal, SpellsElement, primitive_element, class_element, Spells, is_literal, is_simple_name, is_this, is_outer_this, is_parens, is_select, is_super_select, is_call, is_call_on, is_super_call, is_index, is_new, is_new_anonymous, is_new_array, is_new_array_of, is_primitive_cast, is_class_cast, is_prefix, is_postfix, is_binary, is_instance_of, is_conditional, is_assign}
-use Rattle.je_grammar.specs.Grammar.{SpellsArguments, no_arguments, some_arguments, SpellsList, last_expression, more_expressions, SpellsLengths, last_length, more_lengths, SpellsInit, expression_init, array_init, SpellsArrayInit, is_array_init, SpellsInits, no_inits, comma_alone, some_inits, SpellsMoreInits, last_init, last_init_and_comma, more_inits, SpellsBody}
-use Rattle.parse_laws.specs.way.Tokens.{Read, ◌>>=◌, with, is_some, behind, behind_word, behind_kind, is_symbol, is_word, is_identifier, identifier_at}
-use Rattle.parse_laws.specs.way.Types.{part_at, pair_at, name_at, past_name_at, primitive_at, primitive_kind, primitive_type_at, with_dims, dims_at, element_at, plain_type_at, past_dims_at, reference_at, is_cast_at}
+use Rattle.je_ast.specs.Height.{height, heights}
+use Rattle.je_ast.specs.Spans.{join, span_of}
+use Rattle.je_grammar.specs.Tokens.{first_span}
+use Rattle.je_grammar.specs.Operators.{level}
+use Rattle.je_grammar.specs.Types.{SpellsName, SpellsDims}
+use Rattle.je_grammar.specs.Context.{is_cast_before}
+use Rattle.je_grammar.specs.Grammar.{SpellsElement, Spells, is_literal, is_simple_name, is_this, is_outer_this, is_parens, is_super_select, is_call, is_super_call, is_new, is_new_anonymous, is_new_array, is_new_array_of}
+use Rattle.je_grammar.specs.Grammar.{SpellsArguments, no_arguments, some_arguments, SpellsList, last_expression, more_expressions, SpellsLengths, last_length, more_lengths, SpellsInit, expression_init, array_init, SpellsArrayInit, SpellsBody}
+use Rattle.parse_laws.specs.way.Tokens.{◌>>=◌, is_some, behind, behind_word, behind_kind, is_symbol, is_word, is_identifier, identifier_at}
+use Rattle.parse_laws.specs.way.Types.{name_at, dims_at, element_at, reference_at, is_cast_at}
 use Rattle.parse_laws.specs.way.Below.{Below}
 use Rattle.parse_laws.specs.way.Lists.{expressions}
-use Rattle.parse_laws.specs.way.Readers.{IsRead, IsReader, IsBelow, Reads, itself, longer, reach, any}
-use Rattle.parse_laws.specs.way.Expressions.{Closed, Inside, literal_kind, literal_at, prefix_kind, prefix_operator, postfix_operator, binary_kind, binary_operator, assignment_kind, assignment_operator, is_outer_this_at, outer_this_at, makes_array_at, more_arguments_at, arguments_at, length_at, more_lengths_at, lengths_at, filled_at, array_at, object_at, creation_at, named_at, super_member_at, parens_at, primary_at, selected_at, index_step, selection_step, selections_at, increments_at, postfix_at, may_be_cast, cast_at, prefix_at, unary_at, binary_step, operation_step, operations_at, choices_at, conditional_at, assignment_at, expression_layer, behind_lone_comma, values_at, array_initializer_layer}
+use Rattle.parse_laws.specs.way.Readers.{IsRead, IsBelow, any}
+use Rattle.parse_laws.specs.way.Expressions.{Closed, literal_at, is_outer_this_at, outer_this_at, makes_array_at, more_arguments_at, arguments_at, length_at, more_lengths_at, lengths_at, filled_at, array_at, object_at, creation_at, named_at, super_member_at, parens_at, primary_at}
 use Rattle.expression_laws.specs.way.Parts.{SpellsReference, is_reference, IsReferenceRead, ReadTypes, IsBodyRead, ReadBodies}
 use Rattle.expression_laws.proofs.Rules.{bind, either, choose, weaken, Front, front, behind_front, FrontName, front_name, identifier_front}
 use Rattle.expression_laws.proofs.Fronts.{FrontLiteral, front_literal, literal_front, Element, an_element, element_read}

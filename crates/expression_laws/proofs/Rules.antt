@@ -1,7 +1,6 @@
 -- Rules for what holds of the answer of a reading, if there is one.
-use Rattle.std.proofs.Common.{◌≡◌, ℕ, zero, suc, ◌+◌, ◌<◌, ◌≤◌, Bool, true, false, not, cond, List, [], ◌∷◌, ◌++◌, length, get_or, Option, Some, None, IfSome, refl, sym, ap, ◌∙◌, subst, arith, ◌&&◌, ◌||◌, ◌⊎◌, inl, inr, nat_eq}
+use Rattle.std.proofs.Common.{◌≡◌, Bool, true, false, cond, List, [], ◌∷◌, get_or, Option, Some, None, IfSome, refl, sym, ap, ◌∙◌, subst, ◌||◌, nat_eq}
 use Rattle.std.proofs.lemmas.Bool.{eqb-true, eq-eqb}
-use Rattle.je_base.specs.declared.span.Span.{Span}
 use Rattle.je_token.specs.declared.keyword.Keyword.{Keyword}
 use Rattle.je_token.specs.declared.keyword.Keyword.TheVariants as word
 use Rattle.je_token.specs.declared.symbol.Symbol.{Symbol}
@@ -11,7 +10,7 @@ use Rattle.je_token.specs.declared.token.TokenKind.{TokenKind}
 use Rattle.je_token.specs.declared.token.TokenKind.TheVariants as kind
 use Rattle.je_grammar.specs.Tokens.{Is, it_is, IsIdentifier, identifier}
 use Rattle.je_ast.specs.declared.name.Identifier.{Identifier}
-use Rattle.parse_laws.specs.way.Tokens.{Read, ◌>>=◌, with, is_some, word_number, symbol_number, same, behind_kind, identifier_at}
+use Rattle.parse_laws.specs.way.Tokens.{◌>>=◌, with, is_some, word_number, symbol_number, same, behind_kind, identifier_at}
 
 -- ---- readings
 

@@ -1,5 +1,5 @@
 -- What the productions of expressions rest on where names, types and class bodies stand in them.
-use Rattle.std.specs.Prelude.{◌≡◌, ℕ, ◌<◌, ◌≤◌, Bool, true, false, List, [], ◌∷◌, length, Option, Some, None, IfSome, ◌⊎◌}
+use Rattle.std.specs.Prelude.{◌≡◌, ℕ, ◌<◌, ◌≤◌, true, false, List, length, Some, IfSome, ◌⊎◌}
 use Rattle.je_base.specs.declared.span.Span.{Span}
 use Rattle.je_token.specs.declared.symbol.Symbol.TheVariants as symbol
 use Rattle.je_token.specs.declared.token.Token.{Token}
@@ -8,7 +8,7 @@ use Rattle.je_ast.specs.Trees.{Members}
 use Rattle.je_ast.specs.Height.{members_height}
 use Rattle.je_grammar.specs.Grammar.{SpellsBody}
 use Rattle.je_grammar.specs.Types.{SpellsName, SpellsDims, SpellsRef}
-use Rattle.parse_laws.specs.way.Tokens.{Read, is_some, is_symbol}
+use Rattle.parse_laws.specs.way.Tokens.{is_some, is_symbol}
 use Rattle.parse_laws.specs.way.Types.{part_at, pair_at, name_at, dims_at, reference_at}
 use Rattle.parse_laws.specs.way.Readers.{Reads}
 use Rattle.parse_laws.specs.way.Expressions.{Closed}
