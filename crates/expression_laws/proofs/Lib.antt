@@ -14,3 +14,4 @@ pub mod Postfix
 pub mod Unary
 pub mod Exact
 pub mod ArraysExact
+pub mod Initializers

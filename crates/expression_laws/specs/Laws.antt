@@ -1,11 +1,13 @@
 -- Laws of reading expressions, over any reader of the height below that reads right.
-use Rattle.std.specs.Prelude.{◌≡◌, ℕ, suc, ◌<◌, ◌≤◌, List, Some, IfSome}
+use Rattle.std.specs.Prelude.{◌≡◌, ℕ, suc, ◌<◌, ◌≤◌, List, Some, IfSome, if◌then◌else◌}
 use Rattle.je_base.specs.declared.span.Span.{Span}
 use Rattle.je_token.specs.declared.token.Token.{Token}
 use Rattle.je_ast.specs.Trees.{Expression, Expressions, Members}
 use Rattle.je_ast.specs.Height.{height, heights}
 use Rattle.je_grammar.specs.Operators.{level}
-use Rattle.je_grammar.specs.Grammar.{Spells, SpellsArguments, SpellsArrayInit}
+use Rattle.je_grammar.specs.Grammar.{Spells, SpellsArguments, SpellsArrayInit, SpellsInit}
+use Rattle.je_token.specs.declared.symbol.Symbol.TheVariants as symbol
+use Rattle.parse_laws.specs.way.Tokens.{is_symbol}
 use Rattle.parse_laws.specs.way.Below.{Below}
 use Rattle.parse_laws.specs.way.Readers.{IsBelow, IsRead, IsReader, reach, any}
 use Rattle.parse_laws.specs.way.Expressions.{Closed, arguments_at, expression_layer, array_initializer_layer}
@@ -29,6 +31,12 @@ ArrayInitializersAreSpelled = OverReaders (λ names texts h p body. (ts : List T
 abbrev pub ArrayInitializersAreRead : Type 0
 ArrayInitializersAreRead = OverReaders (λ names texts h p body. (e : Expression) (ts rest : List Token) → SpellsArrayInit names texts e ts rest → height e ≤ suc h →
     array_initializer_layer texts h p body ts ≡ Some (e, rest))
+
+-- An initializer is an array initializer where a brace stands first, and else an expression.
+abbrev pub InitializersAreRead : Type 0
+InitializersAreRead = OverReaders (λ names texts h p body.
+    IsReader (SpellsInit names texts) height any (λ e rest. (1 ≤ level e) × (1 ≤ reach rest)) (suc h)
+    (λ ts. if is_symbol symbol.OpenBrace ts then array_initializer_layer texts h p body ts else expression_layer texts h p body 1 ts))
 
 -- Arguments are read where they are spelled, and else nothing is.
 pub record AreArguments (names texts : List (List ℕ)) (most : ℕ) (ts : List Token) (x : Expressions × Span × List Token) : Type 0 where

@@ -7,4 +7,6 @@
 
 mod laws;
 
-pub use laws::{arguments_are_read, array_initializers_are_read, expressions_are_read};
+pub use laws::{
+    arguments_are_read, array_initializers_are_read, expressions_are_read, initializers_are_read,
+};
