@@ -13,10 +13,10 @@ use Rattle.je_core.specs.declared.program.Access.TheVariants.{Package}
 use Rattle.je_core.specs.declared.program.Flags.{Flags}
 use Rattle.je_core.specs.declared.program.Sort.TheVariants.{Class as ClassSort}
 use Rattle.je_core.specs.declared.program.Local.{Local as LocalOf}
-use Rattle.je_core.specs.declared.expr.BinOp.TheVariants.{Add, Sub}
+use Rattle.je_core.specs.declared.expr.BinOp.TheVariants.{Add, Sub, Div}
 use Rattle.je_core.specs.Core.{Core, CoreForm, Const, Local, This, Field, Assign, Binary, CallVirtual, CallExact, New, CoreStmt, CoreStmtForm, Block, Do, Return, CoreField, CoreMethod, CoreClass, CoreProgram, node, stmt, cores, maybe_core, core_stmts}
 use Rattle.je_java.specs.declared.call.Receiver.TheVariants as receiver
-use Rattle.je_java.specs.Raised.{library_class, null_pointer}
+use Rattle.je_java.specs.Raised.{library_class, null_pointer, arithmetic}
 use Rattle.je_java.specs.World.{World}
 use Rattle.je_java.specs.Steps.{State, Outside, Answer, Done, Thrown, Spent, Wrong}
 use Rattle.je_java.specs.Meaning.{java, meanings, call}
@@ -235,3 +235,16 @@ throws_on_null : call (record { classes = (program (caller (local 0) ∷ called 
     Thrown (record { 0 = 0 }) (after (Instance (record { 0 = 34 }) [] ∷ []) 999994 6)
 unfolding java meanings opened null_pointer library_class
 throws_on_null = refl
+
+-- int f(int n) { return n / n; } on 1 and on 0, which throws (JLS 15.17.2): Block, Return, Binary and its two parts
+abbrev divides : CoreMethod
+divides = method true int (local_of int ∷ []) (body (gives (expr (Binary Div (local 0) (local 0))) ∷ []))
+
+divided : run (divides ∷ []) (Int (pos 1) ∷ []) ≡ Done (Some (Int (pos 1))) (after [] 999995 5)
+unfolding java meanings opened int_wrap
+divided = refl
+
+by_zero : call (record { classes = (program (divides ∷ [])).classes ++ replicate 27 empty; texts = [] }) 1000000 receiver.None (record { 0 = 0 }) 0 (Int (pos 0) ∷ []) (world []) nothing ≡
+    Thrown (record { 0 = 0 }) (after (Instance (record { 0 = 27 }) [] ∷ []) 999995 5)
+unfolding java meanings opened arithmetic library_class
+by_zero = refl

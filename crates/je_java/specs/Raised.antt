@@ -9,3 +9,6 @@ library_class name = record { 0 = unwrap_or (class_number name) 0 }
 
 unfoldable pub null_pointer : ClassId
 null_pointer = library_class (codes "java.lang.NullPointerException")
+
+unfoldable pub arithmetic : ClassId
+arithmetic = library_class (codes "java.lang.ArithmeticException")

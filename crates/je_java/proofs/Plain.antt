@@ -1,0 +1,65 @@
+-- Arithmetic gives no reference.
+use Rattle.std.specs.Prelude.{ℤ, pos, negsuc, zero, suc, Bool, true, false, Option, Some, None}
+use Rattle.std.specs.Int.{Width, w32, w64}
+use Rattle.je_core.specs.declared.expr.BinOp.{BinOp}
+use Rattle.je_core.specs.declared.expr.BinOp.TheVariants.{Mul, Div, Rem, Add, Sub, Shl, Shr, Ushr, Lt, Gt, Le, Ge, Eq, Ne, BitAnd, BitXor, BitOr}
+use Rattle.je_core.specs.declared.value.Value.{Value}
+use Rattle.je_core.specs.declared.value.Value.TheVariants as value
+use Rattle.je_arith.specs.declared.outcome.Outcome.{Outcome}
+use Rattle.je_arith.specs.declared.outcome.Outcome.TheVariants.{Gives, ByZero, Unfit}
+use Rattle.je_arith.specs.Operators.{unless_zero, on_numbers, shifted, on_truths, binary}
+
+abbrev pub IsPlain : Value → Type 0
+IsPlain (value.Ref object) = ⊥
+IsPlain _ = Unit {0}
+
+abbrev pub PlainOutcome : Outcome → Type 0
+PlainOutcome (Gives v) = IsPlain v
+PlainOutcome _ = Unit {0}
+
+unless-plain : (y : ℤ) (v : Value) → IsPlain v → PlainOutcome (unless_zero y v)
+unless-plain (pos zero) v h = tt
+unless-plain (pos (suc n)) v h = h
+unless-plain (negsuc n) v h = h
+
+module _ (w : Width) (of : ℤ → Value) (h : (z : ℤ) → IsPlain (of z)) where
+  numbers-plain : (op : BinOp) (x y : ℤ) → PlainOutcome (on_numbers w of op x y)
+  numbers-plain Mul x y = h _
+  numbers-plain Div x y = unless-plain y _ (h _)
+  numbers-plain Rem x y = unless-plain y _ (h _)
+  numbers-plain Add x y = h _
+  numbers-plain Sub x y = h _
+  numbers-plain Shl x y = h _
+  numbers-plain Shr x y = h _
+  numbers-plain Ushr x y = h _
+  numbers-plain Lt x y = tt
+  numbers-plain Gt x y = tt
+  numbers-plain Le x y = tt
+  numbers-plain Ge x y = tt
+  numbers-plain Eq x y = tt
+  numbers-plain Ne x y = tt
+  numbers-plain BitAnd x y = h _
+  numbers-plain BitXor x y = h _
+  numbers-plain BitOr x y = h _
+
+  shifted-plain : (op : BinOp) (x s : ℤ) → PlainOutcome (shifted w of op x s)
+  shifted-plain Shl x s = h _
+  shifted-plain Shr x s = h _
+  shifted-plain Ushr x s = h _
+  shifted-plain _ x s = tt
+
+truths-plain : (op : BinOp) (a b : Bool) → PlainOutcome (on_truths op a b)
+truths-plain Eq a b = tt
+truths-plain Ne a b = tt
+truths-plain BitAnd a b = tt
+truths-plain BitXor a b = tt
+truths-plain BitOr a b = tt
+truths-plain _ a b = tt
+
+pub binary-plain : (op : BinOp) (a b : Value) → PlainOutcome (binary op a b)
+binary-plain op (value.Int x) (value.Int y) = numbers-plain w32 value.Int (λ z. tt) op x y
+binary-plain op (value.Int x) (value.Long y) = shifted-plain w32 value.Int (λ z. tt) op x y
+binary-plain op (value.Long x) (value.Int y) = shifted-plain w64 value.Long (λ z. tt) op x y
+binary-plain op (value.Long x) (value.Long y) = numbers-plain w64 value.Long (λ z. tt) op x y
+binary-plain op (value.Bool a) (value.Bool b) = truths-plain op a b
+binary-plain op _ _ = tt
