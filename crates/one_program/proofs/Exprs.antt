@@ -9,7 +9,7 @@ use Rattle.je_core.specs.declared.expr.BinOp.{BinOp}
 use Rattle.je_core.specs.declared.expr.Expr.{Expr}
 use Rattle.je_core.specs.Core.{Core}
 use Rattle.je_core.specs.View.{view, views}
-use Rattle.je_java.specs.Steps.{operate}
+use Rattle.one_program.specs.Constants.{operate}
 use Rattle.je_base.specs.declared.memory.Memory.{Memory}
 use Rattle.je_base.specs.declared.span.NameId.{NameId}
 use Rattle.one_syntax.specs.declared.tree.Expr.{Expr as Tree, Call, Brackets, Binary}

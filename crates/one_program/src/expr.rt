@@ -2,16 +2,17 @@
 
 ghost use Rattle.std.specs.Prelude.{◌≡◌, ◌≤◌, Some, IfOk, IfSome, OnSome, IfNone};
 ghost use Rattle.je_core.specs.View.{view, views};
-ghost use Rattle.je_java.specs.Steps.{operate};
 ghost use Rattle.one_syntax.specs.Trees.{view_expr, view_exprs, call, decimal, name as name_tree};
 ghost use Rattle.one_program.specs.Scope.{Scope};
 ghost use Rattle.one_program.specs.Conditions.{ExprFits, ArgsFit, IsIntName, greatest_int, is_operator};
+ghost use Rattle.one_program.specs.Constants.{operate};
 ghost use Rattle.one_program.specs.Elaboration.{core_of, cores_of};
 ghost use Rattle.one_program.specs.way.Elaborated.{IsElaborated, IsFolded, IsJoined, IsOperation, node_of as the_node_of, place_node as the_place_node, call_node as the_call_node};
 
 use crate::nodes;
 use crate::scope::{Callee, Place, Scope};
-use je_core::{BinOp, Memory, NameId};
+use je_arith::{Outcome, try_binary};
+use je_core::{BinOp, Memory, NameId, Value};
 use one_syntax::Expr;
 use std::alloc::Global;
 use std::rc::Rc;
@@ -207,10 +208,8 @@ fn is_operator(op: BinOp) -> bool
 fn folded(op: BinOp, x: i32, y: i32) -> Option<i32>
     ensures { result ≡ operate op x y }
 {
-    match op {
-        BinOp::Mul => Some(x.wrapping_mul(y)),
-        BinOp::Add => Some(x.wrapping_add(y)),
-        BinOp::Sub => Some(x.wrapping_sub(y)),
+    match try_binary(op, Value::Int(x), Value::Int(y)) {
+        Outcome::Gives(Value::Int(value)) => Some(value),
         _ => None,
     }
 }

@@ -12,8 +12,10 @@ use Rattle.je_core.specs.Core.{CoreMethod, CoreProgram}
 use Rattle.je_base.specs.declared.span.NameId.{NameId}
 use Rattle.je_core.specs.declared.value.Value.{Value}
 use Rattle.je_core.specs.declared.value.Value.TheVariants.{Int, Null, Ref}
+use Rattle.je_arith.specs.declared.outcome.Outcome.TheVariants.{Gives}
+use Rattle.je_arith.specs.Operators.{binary as binary_outcome}
 use Rattle.je_java.specs.Classes.{field_slot, fresh_slots, locals_for}
-use Rattle.je_java.specs.Steps.{Own, Computation, get_this, get_local, put_local, make, operate, binary, read_field, write_field}
+use Rattle.je_java.specs.Steps.{Own, Computation, get_this, get_local, put_local, make, binary, read_field, write_field}
 use Rattle.one_program.specs.Conditions.{is_operator}
 use Rattle.one_program.specs.Elaboration.{one_class}
 use Rattle.one_program.specs.declared.scope.Sort.TheVariants.{Int as int, Object as object}
@@ -53,7 +55,7 @@ abbrev pub Keeps : (fields : ℕ) {A : Type 0} → ℕ → Context → Context �
 Keeps fields t c d Q m = Safe (invariant fields) (Holds int) t c d Q m
 
 -- an operator of a One has a value for any two ints
-operates : (op : BinOp) → is_operator op ≡ true → (x y : ℤ) → (z : ℤ) × (operate op x y ≡ Some z)
+operates : (op : BinOp) → is_operator op ≡ true → (x y : ℤ) → (z : ℤ) × (binary_outcome op (Int x) (Int y) ≡ Gives (Int z))
 operates Mul f x y = (_, refl)
 operates Add f x y = (_, refl)
 operates Sub f x y = (_, refl)
@@ -75,9 +77,9 @@ module _ {fields : ℕ} {t : ℕ} {c : Context} where
       (old.0, old.1, record { this = q.this; locals = LocalsFit-set at q.locals e r; room = rw length-set q.room }))
       r
 
-  pub keeps-binary : {a b : Value} (op : BinOp) → is_operator op ≡ true → Holds int t a → Holds int t b →
-      Keeps fields t c c (Holds int) (binary op a b)
-  keeps-binary op f (an_int {x = x}) (an_int {x = y}) = let found = operates op f x y in safe-binary op x y found.1 an_int
+  pub keeps-binary : {a b : Value} (program : CoreProgram) (op : BinOp) → is_operator op ≡ true → Holds int t a → Holds int t b →
+      Keeps fields t c c (Holds int) (binary program op a b)
+  keeps-binary program op f (an_int {x = x}) (an_int {x = y}) = let found = operates op f x y in safe-binary program op x y found.1 an_int
 
   pub keeps-read_field : {value : Value} (program : CoreProgram) (number : ℕ) →
       field_slot program one_class number ≡ Some number → number < fields → Holds object t value →

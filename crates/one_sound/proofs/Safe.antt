@@ -1,5 +1,5 @@
 -- What evaluation keeps, whatever it is: an invariant of states, and computations that keep it and come to a fine answer.
-use Rattle.std.proofs.Common.{◌≡◌, ℕ, zero, suc, ◌-◌, List, [], ◌∷◌, ◌++◌, length, Option, Some, refl}
+use Rattle.std.proofs.Common.{◌≡◌, ℕ, zero, suc, ◌-◌, List, [], ◌∷◌, ◌++◌, length, Option, Some, refl, subst, sym}
 use Rattle.std.specs.Prelude.{Bool, true, false, ℤ, nat_le, if◌then◌else◌, slice_get, slice_set}
 use Rattle.je_core.specs.Defaults.{default_of}
 use Rattle.je_core.specs.declared.expr.BinOp.{BinOp}
@@ -12,7 +12,9 @@ use Rattle.je_core.specs.declared.value.Value.{Value}
 use Rattle.je_core.specs.declared.value.Value.TheVariants.{Int, Ref}
 use Rattle.je_java.specs.Classes.{fresh_slots, field_slot, locals_for}
 use Rattle.je_java.specs.World.{class_of, slot_of, with_slot}
-use Rattle.je_java.specs.Steps.{State, Own, Answer, Spent, Run, Nothing, Exits, Computation, ret, bind, seq, yields, spent, throw, leave, need, framed, with_own, with_objects, with_units, tick, tick_at, charge, get_this, get_local, put_local, get_class, get_slot, put_slot, new_object, make, raise, deref, operate, binary, read_field, write_field}
+use Rattle.je_arith.specs.declared.outcome.Outcome.TheVariants.{Gives}
+use Rattle.je_arith.specs.Operators.{binary as binary_outcome}
+use Rattle.je_java.specs.Steps.{State, Own, Answer, Spent, Run, Nothing, Exits, Computation, ret, bind, seq, yields, spent, throw, leave, need, framed, with_own, with_objects, with_units, tick, tick_at, charge, get_this, get_local, put_local, get_class, get_slot, put_slot, new_object, make, raise, deref, computed, binary, read_field, write_field}
 use Rattle.je_java.specs.Meaning.{Meanings, run_method}
 
 -- what holds of states between the steps
@@ -229,10 +231,12 @@ module _ {I : Invariant} {L : Known I Value} {t : I.Time} {c : I.Context} where
 module _ {I : Invariant} {L : Known I Value} {t : I.Time} {c : I.Context} where
   -- steps made of these
 
-  pub safe-binary : {Q : Known I Value} {z : ℤ} (op : BinOp) (x y : ℤ) →
-      operate op x y ≡ Some z → Q t (Int z) → Safe I L t c c Q (binary op (Int x) (Int y))
+  pub safe-binary : {Q : Known I Value} {z : ℤ} (program : CoreProgram) (op : BinOp) (x y : ℤ) →
+      binary_outcome op (Int x) (Int y) ≡ Gives (Int z) → Q t (Int z) →
+      Safe I L t c c Q (binary program op (Int x) (Int y))
   unfolding binary
-  safe-binary op x y e q = safe-need _ refl (safe-need _ refl (safe-need _ e (safe-ret (Int _) q)))
+  safe-binary {Q = Q} {z = z} program op x y e q =
+      subst (λ outcome. Safe I L t c c Q (computed program outcome)) (sym e) (safe-ret (Int z) q)
 
   pub safe-make : {Q : Known I ObjId} {slots : List Value} (program : CoreProgram) (class : ClassId) →
       fresh_slots program class ≡ Some slots →

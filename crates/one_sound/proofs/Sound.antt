@@ -112,7 +112,7 @@ module _ {members : Members} {program : CoreProgram} (p : ProgramTyped members p
   keeps-form (FormTyped.field {number = number} h f) t =
       safe-bind (g.eval f t) λ u l o r. keeps-read_field program number (p.slot number h) h r
   keeps-form (FormTyped.binary {op = op} h f f') t =
-      safe-bind (g.eval f t) λ u l a r. safe-bind (g.eval f' u) λ v k b s. keeps-binary op h (Holds-later k r) s
+      safe-bind (g.eval f t) λ u l a r. safe-bind (g.eval f' u) λ v k b s. keeps-binary program op h (Holds-later k r) s
   keeps-form (FormTyped.call_static {number = number} e fs) t =
       keeps-args g _ fs λ u l given r. keeps-run_exact number given e r
   keeps-form (FormTyped.call_on {number = number} e f fs) t =

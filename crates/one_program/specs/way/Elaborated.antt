@@ -3,7 +3,7 @@ use Rattle.std.specs.Prelude.{◌≡◌, ℕ, ℤ, List, [], ◌∷◌, ◌++◌
 use Rattle.je_core.specs.declared.expr.BinOp.{BinOp}
 use Rattle.je_core.specs.Core.{Core}
 use Rattle.je_core.specs.View.{view}
-use Rattle.je_java.specs.Steps.{operate}
+use Rattle.one_program.specs.Constants.{operate}
 use Rattle.one_syntax.specs.Trees.{ExprTree}
 use Rattle.one_program.specs.declared.expr.Elaborated.{Elaborated}
 use Rattle.one_program.specs.declared.expr.Elaborated.TheVariants.{Constant, Node}
