@@ -7,7 +7,14 @@ use Rattle.je_core.specs.declared.value.Value.{Value}
 use Rattle.je_core.specs.declared.value.Value.TheVariants as value
 use Rattle.je_arith.specs.declared.outcome.Outcome.{Outcome}
 use Rattle.je_arith.specs.declared.outcome.Outcome.TheVariants.{Gives, ByZero, Unfit}
-use Rattle.je_arith.specs.Operators.{unless_zero, on_numbers, shifted, on_truths, binary}
+use Rattle.je_core.specs.declared.expr.UnOp.{UnOp}
+use Rattle.je_core.specs.declared.expr.UnOp.TheVariants.{Minus, Not, Tilde}
+use Rattle.je_core.specs.declared.types.Base.{Base}
+use Rattle.je_core.specs.declared.types.Base.TheVariants as base
+use Rattle.je_arith.specs.Conversion.{as_base, as_base_if, converted, number_of}
+use Rattle.je_java.specs.Steps.{converted_in}
+use Rattle.std.specs.Prelude.{ℕ}
+use Rattle.je_arith.specs.Operators.{unary, unless_zero, on_numbers, shifted, on_truths, binary}
 
 abbrev pub IsPlain : Value → Type 0
 IsPlain (value.Ref object) = ⊥
@@ -63,3 +70,31 @@ binary-plain op (value.Long x) (value.Int y) = shifted-plain w64 value.Long (λ 
 binary-plain op (value.Long x) (value.Long y) = numbers-plain w64 value.Long (λ z. tt) op x y
 binary-plain op (value.Bool a) (value.Bool b) = truths-plain op a b
 binary-plain op _ _ = tt
+
+abbrev pub PlainOption : Option Value → Type 0
+PlainOption None = Unit {0}
+PlainOption (Some v) = IsPlain v
+
+pub unary-plain : (op : UnOp) (a : Value) → PlainOption (unary op a)
+unary-plain Minus (value.Int x) = tt
+unary-plain Minus (value.Long x) = tt
+unary-plain Tilde (value.Int x) = tt
+unary-plain Tilde (value.Long x) = tt
+unary-plain Not (value.Bool b) = tt
+unary-plain _ _ = tt
+
+number-plain : (b : Base) (z : ℤ) → PlainOption (as_base b z)
+number-plain base.Byte z = tt
+number-plain base.Short z = tt
+number-plain base.Char z = tt
+number-plain base.Int z = tt
+number-plain base.Long z = tt
+number-plain _ z = tt
+
+maybe-plain : (b : Base) (z : Option ℤ) → PlainOption (as_base_if b z)
+maybe-plain b None = tt
+maybe-plain b (Some z) = number-plain b z
+
+pub converted-plain : (dims : ℕ) (b : Base) (a : Value) → PlainOption (converted_in dims b a)
+converted-plain zero b a = maybe-plain b (number_of a)
+converted-plain (suc dims) b a = tt

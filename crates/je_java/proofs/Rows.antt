@@ -6,15 +6,16 @@ use Rattle.je_core.specs.declared.object.Obj.{Obj}
 use Rattle.je_core.specs.declared.object.Obj.TheVariants.{Instance}
 use Rattle.je_base.specs.declared.span.Span.{Span}
 use Rattle.je_core.specs.declared.types.Ty.{Ty}
-use Rattle.je_core.specs.declared.types.Base.TheVariants.{Int as IntBase, Void as VoidBase, Class as ClassBase}
+use Rattle.je_core.specs.declared.types.Base.TheVariants.{Int as IntBase, Byte as ByteBase, Void as VoidBase, Class as ClassBase}
 use Rattle.je_core.specs.declared.value.Value.{Value}
-use Rattle.je_core.specs.declared.value.Value.TheVariants.{Int, Null, Ref}
+use Rattle.je_core.specs.declared.value.Value.TheVariants.{Int, Byte, Bool as Truth, Null, Ref}
 use Rattle.je_core.specs.declared.program.Access.TheVariants.{Package}
 use Rattle.je_core.specs.declared.program.Flags.{Flags}
 use Rattle.je_core.specs.declared.program.Sort.TheVariants.{Class as ClassSort}
 use Rattle.je_core.specs.declared.program.Local.{Local as LocalOf}
-use Rattle.je_core.specs.declared.expr.BinOp.TheVariants.{Add, Sub, Div}
-use Rattle.je_core.specs.Core.{Core, CoreForm, Const, Local, This, Field, Assign, Binary, CallVirtual, CallExact, New, CoreStmt, CoreStmtForm, Block, Do, Return, CoreField, CoreMethod, CoreClass, CoreProgram, node, stmt, cores, maybe_core, core_stmts}
+use Rattle.je_core.specs.declared.expr.BinOp.TheVariants.{Add, Sub, Div, Lt, Ne}
+use Rattle.je_core.specs.declared.expr.UnOp.TheVariants.{Minus, Tilde}
+use Rattle.je_core.specs.Core.{Core, CoreForm, Const, Local, This, Field, Assign, Unary, Binary, And, Or, Choose, Convert, CallVirtual, CallExact, New, CoreStmt, CoreStmtForm, Empty, Block, Do, If, Return, CoreField, CoreMethod, CoreClass, CoreProgram, node, stmt, cores, maybe_core, core_stmts, maybe_stmt}
 use Rattle.je_java.specs.declared.call.Receiver.TheVariants as receiver
 use Rattle.je_java.specs.Raised.{library_class, null_pointer, arithmetic}
 use Rattle.je_java.specs.World.{World}
@@ -248,3 +249,43 @@ by_zero : call (record { classes = (program (divides ∷ [])).classes ++ replica
     Thrown (record { 0 = 0 }) (after (Instance (record { 0 = 27 }) [] ∷ []) 999995 5)
 unfolding java meanings opened arithmetic library_class
 by_zero = refl
+
+-- int f(int n) { if (n < 5 && n != 3) return n < 0 ? -n : ~n; else ; return 7; }
+abbrev picks : CoreMethod
+picks = method true int (local_of int ∷ []) (body
+    (statement (If (expr (And (expr (Binary Lt (local 0) (constant (Int (pos 5))))) (expr (Binary Ne (local 0) (constant (Int (pos 3)))))))
+    (gives (expr (Choose (expr (Binary Lt (local 0) (constant (Int (pos 0))))) (expr (Unary Minus (local 0))) (expr (Unary Tilde (local 0))))))
+    (maybe_stmt (Some (statement Empty))))
+    ∷ gives (constant (Int (pos 7))) ∷ []))
+
+-- the Block, If, And and its left operand's 3 nodes; then Empty, Return and Const
+left_decides : run (picks ∷ []) (Int (pos 9) ∷ []) ≡ Done (Some (Int (pos 7))) (after [] 999991 9)
+unfolding java meanings opened int_wrap
+left_decides = refl
+
+-- the 3 nodes of the right operand too
+right_decides : run (picks ∷ []) (Int (pos 3) ∷ []) ≡ Done (Some (Int (pos 7))) (after [] 999988 12)
+unfolding java meanings opened int_wrap
+right_decides = refl
+
+-- in place of the last 3: Return, Choose and its condition's 3 nodes, Unary and Local
+complements : run (picks ∷ []) (Int (pos 1) ∷ []) ≡ Done (Some (Int (negsuc 1))) (after [] 999984 16)
+unfolding java meanings opened int_wrap
+complements = refl
+
+negates : run (picks ∷ []) (Int (negsuc 3) ∷ []) ≡ Done (Some (Int (pos 4))) (after [] 999984 16)
+unfolding java meanings opened int_wrap
+negates = refl
+
+-- `true || false`: the right operand does not begin
+either : run (method true int [] (body (gives (expr (Or (constant (Truth true)) (constant (Truth false)))) ∷ [])) ∷ []) [] ≡ Done (Some (Truth true)) (after [] 999996 4)
+unfolding java meanings opened
+either = refl
+
+-- `(byte) 200`
+abbrev byte : Ty
+byte = record { base = ByteBase; dims = 0 }
+
+narrows : run (method true byte [] (body (gives (node (Convert (constant (Int (pos 200)))) byte nowhere nowhere) ∷ [])) ∷ []) [] ≡ Done (Some (Byte (negsuc 55))) (after [] 999996 4)
+unfolding java meanings opened int_wrap
+narrows = refl
