@@ -2,7 +2,8 @@
 use Rattle.std.proofs.Common.{◌≡◌, ℕ, zero, suc, ◌+◌, ◌≤◌, List, [], ◌∷◌, length, Some, refl, sym, subst, arith}
 use Rattle.std.specs.Prelude.{Bool, true, false, slice_get}
 use Rattle.std.proofs.lemmas.List.Elements.{All-nil}
-use Rattle.je_core.specs.Core.{Core, CoreForm, CoreStmt, CoreMethod, CoreProgram, form_of, stmt_form_of}
+use Rattle.je_core.specs.Core.{Core, CoreForm, CoreStmt, CoreMethod, CoreProgram, form_of, ty_of, stmt_form_of}
+use Rattle.je_core.specs.declared.types.Ty.{Ty}
 use Rattle.je_base.specs.declared.span.NameId.{NameId}
 use Rattle.je_core.specs.declared.value.Value.{Value}
 use Rattle.je_core.specs.declared.value.Value.TheVariants.{Int, Null, Ref}
@@ -103,33 +104,33 @@ module _ {members : Members} {program : CoreProgram} (p : ProgramTyped members p
       safe-bind (keeps-make program p.fresh p.are_ints) λ u l o h.
       safe-need _ found.1 (safe-yields (Ref o) (keeps-constructor g found.0 (Ref o) found.2 h) λ v k. Holds-later k h)
 
-  keeps-form : {c d : Context} {sort : Sort} {form : CoreForm} → FormTyped members c d sort form → (t : ℕ) →
-      Keeps (length members.fields) t c d (Holds sort) (eval_form program m form)
+  keeps-form : {c d : Context} {sort : Sort} {form : CoreForm} (ty : Ty) → FormTyped members c d sort form → (t : ℕ) →
+      Keeps (length members.fields) t c d (Holds sort) (eval_form program m ty form)
   unfolding start_call apply constant
-  keeps-form (FormTyped.constant {value = value}) t = safe-ret (Int value) an_int
-  keeps-form (FormTyped.local {number = number} e) t = keeps-get_local number e
-  keeps-form (FormTyped.this e) t = keeps-this e
-  keeps-form (FormTyped.field {number = number} h f) t =
+  keeps-form ty (FormTyped.constant {value = value}) t = safe-ret (Int value) an_int
+  keeps-form ty (FormTyped.local {number = number} e) t = keeps-get_local number e
+  keeps-form ty (FormTyped.this e) t = keeps-this e
+  keeps-form ty (FormTyped.field {number = number} h f) t =
       safe-bind (g.eval f t) λ u l o r. keeps-read_field program number (p.slot number h) h r
-  keeps-form (FormTyped.binary {op = op} h f f') t =
+  keeps-form ty (FormTyped.binary {op = op} h f f') t =
       safe-bind (g.eval f t) λ u l a r. safe-bind (g.eval f' u) λ v k b s. keeps-binary program op h (Holds-later k r) s
-  keeps-form (FormTyped.call_static {number = number} e fs) t =
+  keeps-form ty (FormTyped.call_static {number = number} e fs) t =
       keeps-args g _ fs λ u l given r. keeps-run_exact number given e r
-  keeps-form (FormTyped.call_on {number = number} e f fs) t =
+  keeps-form ty (FormTyped.call_on {number = number} e f fs) t =
       safe-bind (g.eval f t) λ u l this h.
       keeps-args g _ fs λ v k given r. keeps-run_virtual number given e (Holds-later k h) r
-  keeps-form FormTyped.make t = keeps-run_new
-  keeps-form (FormTyped.assign_local {number = number} e f) t =
+  keeps-form ty FormTyped.make t = keeps-run_new
+  keeps-form ty (FormTyped.assign_local {number = number} e f) t =
       safe-bind (g.eval f t) λ u l a r. keeps-put_local number e r
-  keeps-form (FormTyped.assign_field {number = number} h f f') t =
+  keeps-form ty (FormTyped.assign_field {number = number} h f f') t =
       safe-bind (g.eval f t) λ u l o r. safe-bind (g.eval f' u) λ v k a s.
       keeps-write_field program number (p.slot number h) h (Holds-later k r) s
-  keeps-form (FormTyped.initialize x h f) t =
+  keeps-form ty (FormTyped.initialize x h f) t =
       safe-bind (g.eval f t) λ u l a r. keeps-initialize _ h r
 
   pub keeps-expr : {c d : Context} {sort : Sort} {e : Core} → ExprTyped members c d sort e → (t : ℕ) →
-      Keeps (length members.fields) t c d (Holds sort) (eval_form program m (form_of e))
-  keeps-expr (ExprTyped.of f) t = keeps-form f t
+      Keeps (length members.fields) t c d (Holds sort) (eval_form program m (ty_of e) (form_of e))
+  keeps-expr {e = e} (ExprTyped.of f) t = keeps-form (ty_of e) f t
 
   pub keeps-stmt : {c d : Context} {s : CoreStmt} → StmtTyped members c d s → (t : ℕ) →
       Keeps (length members.fields) t c d Any (exec_form program m s (stmt_form_of s))
