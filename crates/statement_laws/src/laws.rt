@@ -1,15 +1,16 @@
 // Laws of reading statements, each on a function without a body.
 
-ghost use Rattle.statement_laws.specs.Laws.{VariablesAreSpelled, BlocksAreSpelled, StatementsAreSpelled, LocalVariablesAreSpelled};
+ghost use Rattle.statement_laws.specs.Laws.{VariablesAreSpelled, VariablesAreRead, BlocksAreRead, StatementsAreSpelled, LocalVariablesAreSpelled, LocalVariablesAreRead};
 
-/// What is read as variables is spelled, and no higher than below.
+/// Variables are read up to a semicolon: what is read is spelled and no higher than below, and what is spelled so is read.
 pub fn variables_are_read()
     ensures spelled { VariablesAreSpelled }
+    ensures read { VariablesAreRead }
 {}
 
-/// What is read as a block is spelled, and no higher than was asked.
+/// A block is read exactly where one no higher than was asked is spelled.
 pub fn blocks_are_read()
-    ensures spelled { BlocksAreSpelled }
+    ensures { BlocksAreRead }
 {}
 
 /// What is read as a statement is spelled, and no higher than was asked.
@@ -17,7 +18,8 @@ pub fn statements_are_read()
     ensures spelled { StatementsAreSpelled }
 {}
 
-/// What is read as a declaration of local variables is spelled, and no higher than was asked.
+/// A declaration of local variables is read exactly where one no higher than was asked is spelled.
 pub fn local_variables_are_read()
     ensures spelled { LocalVariablesAreSpelled }
+    ensures read { LocalVariablesAreRead }
 {}
