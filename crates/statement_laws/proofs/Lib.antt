@@ -4,3 +4,4 @@ pub mod Stops
 pub mod Blocks
 pub mod Starts
 pub mod Groups
+pub mod Exact

@@ -172,13 +172,13 @@ module _ (names texts : List (List ℕ)) where
         (λ x g. bind (behind symbol.CloseParen x.1) _ (Front (kind.Symbol symbol.CloseParen) x.1) (GoodCondition ts) (behind_front (kind.Symbol symbol.CloseParen) x.1)
         (λ rest c. record { spelled = condition_by g.1 g.2.spelled c; fits = tt; within = g.2.within }))
 
-    record IsElse (x : Statement) (ts : List Token) (y : Statement × List Token) : Type 0 where
-      nearest : ends_short x ≡ false
-      mid : List Token
-      stands : Front (kind.Keyword word.Else) ts mid
-      read : GoodBelow mid y
+    pub record IsElse (x : Statement) (ts : List Token) (y : Statement × List Token) : Type 0 where
+      pub nearest : ends_short x ≡ false
+      pub mid : List Token
+      pub stands : Front (kind.Keyword word.Else) ts mid
+      pub read : GoodBelow mid y
 
-    else_sound : (x : Statement) (ts : List Token) → IfSome (else_at h p x ts) (IsElse x ts)
+    pub else_sound : (x : Statement) (ts : List Token) → IfSome (else_at h p x ts) (IsElse x ts)
     unfolding else_at
     else_sound x ts = choose (ends_short x) _ _ (λ o. IfSome o (IsElse x ts)) (λ _. tt)
         (λ f. weaken (behind_word word.Else ts >>= p.statement) (StatementAfter (kind.Keyword word.Else) ts) (IsElse x ts) (statement_after (kind.Keyword word.Else) (behind_word word.Else ts) ts (behind_front (kind.Keyword word.Else) ts))

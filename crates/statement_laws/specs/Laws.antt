@@ -1,17 +1,20 @@
 -- Laws of reading statements, over any reader of the height below that reads right.
-use Rattle.std.specs.Prelude.{◌≡◌, ℕ, suc, ◌≤◌, Bool, List, ◌∷◌, Some, IfSome}
+use Rattle.std.specs.Prelude.{◌≡◌, ℕ, suc, ◌≤◌, Bool, true, List, [], ◌∷◌, length, Some, IfSome}
+use Rattle.je_token.specs.declared.symbol.Symbol.{Symbol}
 use Rattle.je_token.specs.declared.symbol.Symbol.TheVariants as symbol
 use Rattle.je_token.specs.declared.token.Token.{Token}
-use Rattle.je_grammar.specs.Tokens.{IsSymbol}
+use Rattle.je_grammar.specs.Tokens.{IsSymbol, IsIdentifier}
+use Rattle.je_grammar.specs.Types.{SpellsTypeName}
+use Rattle.je_grammar.specs.Context.{is_step}
 use Rattle.je_base.specs.declared.span.Span.{Span}
 use Rattle.je_ast.specs.Types.{TypeName}
-use Rattle.je_ast.specs.Trees.{Variables}
+use Rattle.je_ast.specs.Trees.{Expression, Expressions, Variables, Groups}
 use Rattle.je_ast.specs.Trees as tree
-use Rattle.je_ast.specs.Height.{statement_height, variables_height}
-use Rattle.je_grammar.specs.Grammar.{SpellsVariables, SpellsStatement, SpellsBlockStatement}
+use Rattle.je_ast.specs.Height.{height, heights, statement_height, variables_height, groups_height}
+use Rattle.je_grammar.specs.Grammar.{Spells, SpellsMaybeSteps, SpellsCondition, SpellsGroups, SpellsVariables, SpellsStatement, SpellsBlockStatement}
 use Rattle.parse_laws.specs.way.Below.{Below}
 use Rattle.parse_laws.specs.way.Readers.{IsBelow, IsRead, IsReader, SpellsBlockTree, block_tree_height, any, never}
-use Rattle.parse_laws.specs.way.Statements.{variables_at, block_layer, statement_layer, local_at}
+use Rattle.parse_laws.specs.way.Statements.{condition_at, steps_before_at, groups_at, variables_at, block_layer, statement_layer, local_at}
 
 -- what holds over each reader of the height below that reads right
 abbrev pub OverReaders : ((List (List ℕ)) → (List (List ℕ)) → ℕ → Below → Type 0) → Type 0
@@ -44,3 +47,17 @@ BlocksAreRead = OverReaders (λ names texts h p. IsReader (SpellsBlockTree names
 abbrev pub LocalVariablesAreRead : Type 0
 LocalVariablesAreRead = OverReaders (λ names texts h p. (f s : Span) (m : Bool) (t : TypeName) (vs : Variables) (ts rest : List Token) → SpellsBlockStatement names texts (tree.local f m t vs s) ts rest →
     statement_height (tree.local f m t vs s) ≤ suc h → local_at h p ts ≡ Some (tree.local f m t vs s, rest))
+
+-- Conditions, steps up to their end, and the groups of a `switch` are read where they are spelled.
+abbrev pub ConditionsAreRead : Type 0
+ConditionsAreRead = OverReaders (λ names texts h p. (e : Expression) (ts rest : List Token) → SpellsCondition names texts e ts rest → height e ≤ h → condition_at h p ts ≡ Some (e, rest))
+
+abbrev pub StepsAreRead : Symbol → Type 0
+StepsAreRead y = OverReaders (λ names texts h p. (es : Expressions) (c : Token) (ts rest : List Token) → SpellsMaybeSteps names texts es ts (c ∷ rest) → IsSymbol y c → heights es ≤ h → steps_before_at h p y ts ≡ Some (es, rest))
+
+abbrev pub GroupsAreRead : Type 0
+GroupsAreRead = OverReaders (λ names texts h p. (gs : Groups) (c : Span) (ts rest : List Token) → SpellsGroups names texts gs c ts rest → groups_height gs ≤ h → groups_at h p (length ts) [] ts ≡ Some (gs, c, rest))
+
+-- A step begins with no type before an identifier.
+abbrev pub NoStepBeginsLocal : Type 0
+NoStepBeginsLocal = (names texts : List (List ℕ)) (e : Expression) (t : TypeName) (k : Token) (ts rest all : List Token) → Spells names texts e ts rest → is_step e ≡ true → SpellsTypeName t ts (k ∷ all) → ¬ IsIdentifier k
