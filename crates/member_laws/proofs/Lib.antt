@@ -6,3 +6,4 @@ pub mod Declarations
 pub mod LocalClasses
 pub mod Members
 pub mod MembersExact
+pub mod LocalOnly

@@ -27,20 +27,20 @@ use Rattle.member_laws.proofs.Fronts.{ItemFront, class_front}
 use Rattle.member_laws.proofs.Declarations.{modifiers_before, IsClass, class_sound, class_exact}
 
 -- local modifiers, and `class` behind them
-record IsLocal (names : List (List ℕ)) (ts : List Token) : Type 0 where
-  modifiers : List Modifier
-  mid : List Token
-  rest : List Token
-  spelled : SpellsModifiers names modifiers ts mid
-  local : are_local modifiers ≡ true
-  class : Front (kind.Keyword word.Class) mid rest
+pub record IsLocal (names : List (List ℕ)) (ts : List Token) : Type 0 where
+  pub modifiers : List Modifier
+  pub mid : List Token
+  pub rest : List Token
+  pub spelled : SpellsModifiers names modifiers ts mid
+  pub local : are_local modifiers ≡ true
+  pub class : Front (kind.Keyword word.Class) mid rest
 
 some_or : Keyword → Option Keyword → Keyword
 some_or j (Some k) = k
 some_or j None = j
 
 -- the word that a modifier is
-word_of : {j k : Keyword} {w : Token} → Some j ≡ Some k → IsWord k w → IsWord j w
+pub word_of : {j k : Keyword} {w : Token} → Some j ≡ Some k → IsWord k w → IsWord j w
 unfolding some_or
 word_of {j} {k} {w} e i = subst (λ l. IsWord l w) (ap (some_or j) (sym e)) i
 
@@ -104,7 +104,7 @@ module _ (names : List (List ℕ)) where
   class_alone : (ts : List Token) → is_word word.Class ts ≡ true → IsLocal names ts
   class_alone ts e = let f = front_of (kind.Keyword word.Class) ts e in record { modifiers = []; mid = ts; rest = f.0; spelled = no_modifiers; local = refl; class = f.1 }
 
-  local_sound : (n : ℕ) (ts : List Token) → begins_local_class_at n ts ≡ true → IsLocal names ts
+  pub local_sound : (n : ℕ) (ts : List Token) → begins_local_class_at n ts ≡ true → IsLocal names ts
   unfolding begins_local_class_at
   local_sound zero ts = class_alone ts
   local_sound (suc n) ts =

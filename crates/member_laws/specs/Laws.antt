@@ -1,7 +1,7 @@
 -- Laws of reading members and declarations, over any reader of the height below that reads right.
 use Rattle.std.specs.Prelude.{◌≡◌, ℕ, suc, true, List, length, None, if◌then◌else◌}
 use Rattle.je_token.specs.declared.token.Token.{Token}
-use Rattle.je_ast.specs.Trees.{Declaration}
+use Rattle.je_ast.specs.Trees.{Statement, Declaration}
 use Rattle.je_ast.specs.Trees as tree
 use Rattle.je_ast.specs.Height.{member_height, declaration_height}
 use Rattle.je_grammar.specs.Grammar.{SpellsMember, SpellsDeclaration, SpellsBlockStatement}
@@ -38,6 +38,10 @@ LocalClassesAreRead = OverReaders (λ names texts h p. IsReader (SpellsLocalClas
 -- Where a local class is spelled, the words before it say so.
 abbrev pub LocalClassesAreSeen : Type 0
 LocalClassesAreSeen = (names texts : List (List ℕ)) (d : Declaration) (ts rest : List Token) → SpellsLocalClass names texts d ts rest → begins_local_class_at (length ts) ts ≡ true
+
+-- Where they say so, nothing else is spelled as a statement of a block.
+abbrev pub LocalClassesAreAlone : Type 0
+LocalClassesAreAlone = (names texts : List (List ℕ)) (b : Statement) (ts rest : List Token) → SpellsBlockStatement names texts b ts rest → begins_local_class_at (length ts) ts ≡ true → (d : Declaration) × (b ≡ tree.local_class d)
 
 -- Members are read right, one higher than below, with readers of variables and of blocks that read right.
 abbrev pub MembersAreRead : Type 0
