@@ -5,6 +5,7 @@ ghost use Rattle.je_core.specs.Core.{node, cores, maybe_core};
 ghost use Rattle.je_core.specs.Core.{Const as ConstForm, Text as TextForm, Local as LocalForm, This as ThisForm, Field as FieldForm, Static as StaticForm, Index as IndexForm, Length as LengthForm};
 ghost use Rattle.je_core.specs.Core.{Assign as AssignForm, Update as UpdateForm, Unary as UnaryForm, Binary as BinaryForm, And as AndForm, Or as OrForm, Choose as ChooseForm, Convert as ConvertForm};
 ghost use Rattle.je_core.specs.Core.{Cast as CastForm, InstanceOf as InstanceOfForm, Concat as ConcatForm, CallVirtual as CallVirtualForm, CallExact as CallExactForm, New as NewForm, NewArray as NewArrayForm, ArrayOf as ArrayOfForm};
+ghost use Rattle.je_core.specs.Making.{IsNode, Makes};
 ghost use Rattle.je_core.specs.View.{view, form_view, views, view_if, capture_view};
 
 use crate::expr::{BinOp, Capture, Expr, Form, UnOp, Use};
@@ -25,7 +26,7 @@ pub struct Mark {
 // A node of a form.
 #[tactic(auto, using(crate::proofs::Views::view_is))]
 fn expr(mark: Mark, form: Form) -> Expr
-    ensures { view result ≡ node (form_view form) mark.ty mark.span mark.at }
+    ensures { IsNode result mark (form_view form) }
 {
     Expr {
         form,
@@ -47,7 +48,7 @@ pub fn part_if(alloc: Global, e: Option<Expr>) -> Result<Option<Rc<Expr>>, Memor
 
 /// A constant expression that is no text.
 pub fn make_const(mark: Mark, value: Value, uses: Vec<Use>) -> Expr
-    ensures { view result ≡ node (ConstForm value uses.items) mark.ty mark.span mark.at }
+    ensures { IsNode result mark (ConstForm value uses.items) }
 {
     let form = Form::Const { value, uses };
     expr(mark, form)
@@ -55,7 +56,7 @@ pub fn make_const(mark: Mark, value: Value, uses: Vec<Use>) -> Expr
 
 /// A constant expression that is a text.
 pub fn make_text(mark: Mark, units: Units, uses: Vec<Use>) -> Expr
-    ensures { view result ≡ node (TextForm units uses.items) mark.ty mark.span mark.at }
+    ensures { IsNode result mark (TextForm units uses.items) }
 {
     let form = Form::Text { units, uses };
     expr(mark, form)
@@ -63,7 +64,7 @@ pub fn make_text(mark: Mark, units: Units, uses: Vec<Use>) -> Expr
 
 /// A local.
 pub fn make_local(mark: Mark, local: u32) -> Expr
-    ensures { view result ≡ node (LocalForm local) mark.ty mark.span mark.at }
+    ensures { IsNode result mark (LocalForm local) }
 {
     let form = Form::Local { local };
     expr(mark, form)
@@ -71,7 +72,7 @@ pub fn make_local(mark: Mark, local: u32) -> Expr
 
 /// `this`
 pub fn make_this(mark: Mark) -> Expr
-    ensures { view result ≡ node ThisForm mark.ty mark.span mark.at }
+    ensures { IsNode result mark ThisForm }
 {
     let form = Form::This;
     expr(mark, form)
@@ -85,7 +86,7 @@ pub fn make_field(
     class: ClassId,
     field: u32,
 ) -> Result<Expr, Memory>
-    ensures { IfOk result (λ e. view e ≡ node (FieldForm (view object) class field) mark.ty mark.span mark.at) }
+    ensures { Makes result mark (FieldForm (view object) class field) }
 {
     let object = Rc::new(alloc, object)?;
     let form = Form::Field {
@@ -104,7 +105,7 @@ pub fn make_static(
     class: ClassId,
     field: u32,
 ) -> Result<Expr, Memory>
-    ensures { IfOk result (λ e. view e ≡ node (StaticForm (maybe_core (option_map view object)) class field) mark.ty mark.span mark.at) }
+    ensures { Makes result mark (StaticForm (maybe_core (option_map view object)) class field) }
 {
     let object = part_if(alloc, object)?;
     let form = Form::Static {
@@ -117,7 +118,7 @@ pub fn make_static(
 
 /// An element of an array.
 pub fn make_index(alloc: Global, mark: Mark, array: Expr, index: Expr) -> Result<Expr, Memory>
-    ensures { IfOk result (λ e. view e ≡ node (IndexForm (view array) (view index)) mark.ty mark.span mark.at) }
+    ensures { Makes result mark (IndexForm (view array) (view index)) }
 {
     let array = Rc::new(alloc, array)?;
     let index = Rc::new(alloc, index)?;
@@ -127,7 +128,7 @@ pub fn make_index(alloc: Global, mark: Mark, array: Expr, index: Expr) -> Result
 
 /// The length of an array.
 pub fn make_length(alloc: Global, mark: Mark, array: Expr) -> Result<Expr, Memory>
-    ensures { IfOk result (λ e. view e ≡ node (LengthForm (view array)) mark.ty mark.span mark.at) }
+    ensures { Makes result mark (LengthForm (view array)) }
 {
     let array = Rc::new(alloc, array)?;
     let form = Form::Length { array };
@@ -136,7 +137,7 @@ pub fn make_length(alloc: Global, mark: Mark, array: Expr) -> Result<Expr, Memor
 
 /// An assignment to a place.
 pub fn make_assign(alloc: Global, mark: Mark, place: Expr, value: Expr) -> Result<Expr, Memory>
-    ensures { IfOk result (λ e. view e ≡ node (AssignForm (view place) (view value)) mark.ty mark.span mark.at) }
+    ensures { Makes result mark (AssignForm (view place) (view value)) }
 {
     let place = Rc::new(alloc, place)?;
     let value = Rc::new(alloc, value)?;
@@ -153,7 +154,8 @@ pub fn make_update(
     operand: Option<Expr>,
     gives_old: bool,
 ) -> Result<Expr, Memory>
-    ensures { IfOk result (λ e. view e ≡ node (UpdateForm (view place) op (maybe_core (option_map view operand)) gives_old) mark.ty mark.span mark.at) }
+    ensures { Makes result mark (UpdateForm (view place) op
+        (maybe_core (option_map view operand)) gives_old) }
 {
     let place = Rc::new(alloc, place)?;
     let operand = part_if(alloc, operand)?;
@@ -168,7 +170,7 @@ pub fn make_update(
 
 /// An operator on one operand.
 pub fn make_unary(alloc: Global, mark: Mark, op: UnOp, operand: Expr) -> Result<Expr, Memory>
-    ensures { IfOk result (λ e. view e ≡ node (UnaryForm op (view operand)) mark.ty mark.span mark.at) }
+    ensures { Makes result mark (UnaryForm op (view operand)) }
 {
     let operand = Rc::new(alloc, operand)?;
     let form = Form::Unary { op, operand };
@@ -183,7 +185,7 @@ pub fn make_binary(
     left: Expr,
     right: Expr,
 ) -> Result<Expr, Memory>
-    ensures { IfOk result (λ e. view e ≡ node (BinaryForm op (view left) (view right)) mark.ty mark.span mark.at) }
+    ensures { Makes result mark (BinaryForm op (view left) (view right)) }
 {
     let left = Rc::new(alloc, left)?;
     let right = Rc::new(alloc, right)?;
@@ -193,7 +195,7 @@ pub fn make_binary(
 
 /// `left && right`
 pub fn make_and(alloc: Global, mark: Mark, left: Expr, right: Expr) -> Result<Expr, Memory>
-    ensures { IfOk result (λ e. view e ≡ node (AndForm (view left) (view right)) mark.ty mark.span mark.at) }
+    ensures { Makes result mark (AndForm (view left) (view right)) }
 {
     let left = Rc::new(alloc, left)?;
     let right = Rc::new(alloc, right)?;
@@ -203,7 +205,7 @@ pub fn make_and(alloc: Global, mark: Mark, left: Expr, right: Expr) -> Result<Ex
 
 /// `left || right`
 pub fn make_or(alloc: Global, mark: Mark, left: Expr, right: Expr) -> Result<Expr, Memory>
-    ensures { IfOk result (λ e. view e ≡ node (OrForm (view left) (view right)) mark.ty mark.span mark.at) }
+    ensures { Makes result mark (OrForm (view left) (view right)) }
 {
     let left = Rc::new(alloc, left)?;
     let right = Rc::new(alloc, right)?;
@@ -219,7 +221,7 @@ pub fn make_choose(
     yes: Expr,
     no: Expr,
 ) -> Result<Expr, Memory>
-    ensures { IfOk result (λ e. view e ≡ node (ChooseForm (view condition) (view yes) (view no)) mark.ty mark.span mark.at) }
+    ensures { Makes result mark (ChooseForm (view condition) (view yes) (view no)) }
 {
     let condition = Rc::new(alloc, condition)?;
     let yes = Rc::new(alloc, yes)?;
@@ -230,7 +232,7 @@ pub fn make_choose(
 
 /// A conversion of a number or char to the mark's type.
 pub fn make_convert(alloc: Global, mark: Mark, operand: Expr) -> Result<Expr, Memory>
-    ensures { IfOk result (λ e. view e ≡ node (ConvertForm (view operand)) mark.ty mark.span mark.at) }
+    ensures { Makes result mark (ConvertForm (view operand)) }
 {
     let operand = Rc::new(alloc, operand)?;
     let form = Form::Convert { operand };
@@ -239,7 +241,7 @@ pub fn make_convert(alloc: Global, mark: Mark, operand: Expr) -> Result<Expr, Me
 
 /// A cast of a reference to the mark's type.
 pub fn make_cast(alloc: Global, mark: Mark, operand: Expr) -> Result<Expr, Memory>
-    ensures { IfOk result (λ e. view e ≡ node (CastForm (view operand)) mark.ty mark.span mark.at) }
+    ensures { Makes result mark (CastForm (view operand)) }
 {
     let operand = Rc::new(alloc, operand)?;
     let form = Form::Cast { operand };
@@ -248,7 +250,7 @@ pub fn make_cast(alloc: Global, mark: Mark, operand: Expr) -> Result<Expr, Memor
 
 /// `operand instanceof of`
 pub fn make_instance_of(alloc: Global, mark: Mark, operand: Expr, of: Ty) -> Result<Expr, Memory>
-    ensures { IfOk result (λ e. view e ≡ node (InstanceOfForm (view operand) of) mark.ty mark.span mark.at) }
+    ensures { Makes result mark (InstanceOfForm (view operand) of) }
 {
     let operand = Rc::new(alloc, operand)?;
     let form = Form::InstanceOf { operand, of };
@@ -257,7 +259,7 @@ pub fn make_instance_of(alloc: Global, mark: Mark, operand: Expr, of: Ty) -> Res
 
 /// Two values' texts, one behind the other.
 pub fn make_concat(alloc: Global, mark: Mark, left: Expr, right: Expr) -> Result<Expr, Memory>
-    ensures { IfOk result (λ e. view e ≡ node (ConcatForm (view left) (view right)) mark.ty mark.span mark.at) }
+    ensures { Makes result mark (ConcatForm (view left) (view right)) }
 {
     let left = Rc::new(alloc, left)?;
     let right = Rc::new(alloc, right)?;
@@ -274,7 +276,8 @@ pub fn make_call_virtual(
     method: u32,
     args: Vec<Rc<Expr>>,
 ) -> Result<Expr, Memory>
-    ensures { IfOk result (λ e. view e ≡ node (CallVirtualForm (view receiver) class method (cores (views args.items))) mark.ty mark.span mark.at) }
+    ensures { Makes result mark (CallVirtualForm (view receiver) class method
+        (cores (views args.items))) }
 {
     let receiver = Rc::new(alloc, receiver)?;
     let form = Form::CallVirtual {
@@ -288,7 +291,8 @@ pub fn make_call_virtual(
 
 /// A call of a static method that is selected from no expression.
 pub fn make_static_call(mark: Mark, class: ClassId, method: u32, args: Vec<Rc<Expr>>) -> Expr
-    ensures { view result ≡ node (CallExactForm (maybe_core None) class method (cores (views args.items))) mark.ty mark.span mark.at }
+    ensures { IsNode result mark (CallExactForm (maybe_core None) class method
+        (cores (views args.items))) }
 {
     let form = Form::CallExact {
         receiver: None,
@@ -308,7 +312,8 @@ pub fn make_call_exact(
     method: u32,
     args: Vec<Rc<Expr>>,
 ) -> Result<Expr, Memory>
-    ensures { IfOk result (λ e. view e ≡ node (CallExactForm (maybe_core (option_map view receiver)) class method (cores (views args.items))) mark.ty mark.span mark.at) }
+    ensures { Makes result mark (CallExactForm (maybe_core (option_map view receiver)) class method
+        (cores (views args.items))) }
 {
     let receiver = part_if(alloc, receiver)?;
     let form = Form::CallExact {
@@ -329,7 +334,8 @@ pub fn make_new(
     captures: Vec<Capture>,
     word: Span,
 ) -> Expr
-    ensures { view result ≡ node (NewForm class method (cores (views args.items)) (map capture_view captures.items) word) mark.ty mark.span mark.at }
+    ensures { IsNode result mark (NewForm class method (cores (views args.items))
+        (map capture_view captures.items) word) }
 {
     let form = Form::New {
         class,
@@ -343,7 +349,7 @@ pub fn make_new(
 
 /// A new array of the mark's type with these lengths.
 pub fn make_new_array(mark: Mark, lengths: Vec<Rc<Expr>>) -> Expr
-    ensures { view result ≡ node (NewArrayForm (cores (views lengths.items))) mark.ty mark.span mark.at }
+    ensures { IsNode result mark (NewArrayForm (cores (views lengths.items))) }
 {
     let form = Form::NewArray { lengths };
     expr(mark, form)
@@ -351,7 +357,7 @@ pub fn make_new_array(mark: Mark, lengths: Vec<Rc<Expr>>) -> Expr
 
 /// A new array of the mark's type with these elements.
 pub fn make_array_of(mark: Mark, values: Vec<Rc<Expr>>) -> Expr
-    ensures { view result ≡ node (ArrayOfForm (cores (views values.items))) mark.ty mark.span mark.at }
+    ensures { IsNode result mark (ArrayOfForm (cores (views values.items))) }
 {
     let form = Form::ArrayOf { values };
     expr(mark, form)

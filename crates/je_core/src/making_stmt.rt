@@ -4,6 +4,7 @@ ghost use Rattle.std.specs.Prelude.{◌≡◌, IfOk, map, option_map};
 ghost use Rattle.je_core.specs.Core.{stmt, group, catch, core_stmts, maybe_stmt, core_groups, core_catches};
 ghost use Rattle.je_core.specs.Core.{Empty as EmptyForm, Block as BlockForm, Do as DoForm, If as IfForm, Loop as LoopForm, DoLoop as DoLoopForm};
 ghost use Rattle.je_core.specs.Core.{Switch as SwitchForm, Labelled as LabelledForm, Jump as JumpForm, Return as ReturnForm, Throw as ThrowForm, Try as TryForm};
+ghost use Rattle.je_core.specs.Making.{IsStatement, MakesStatement};
 ghost use Rattle.je_core.specs.View.{view, views, label_view, stmt_view, stmt_form_view, stmt_views, stmt_view_if, catch_view, group_view};
 
 use crate::expr::Expr;
@@ -17,7 +18,7 @@ use std::rc::Rc;
 // A statement of a form.
 #[tactic(auto, using(crate::proofs::Views::stmt_view_is))]
 fn statement(span: Span, at: Span, form: StmtForm) -> Stmt
-    ensures { stmt_view result ≡ stmt (stmt_form_view form) span at }
+    ensures { IsStatement result span at (stmt_form_view form) }
 {
     Stmt { form, span, at }
 }
@@ -34,21 +35,22 @@ fn part(alloc: Global, s: Option<Stmt>) -> Result<Option<Rc<Stmt>>, Memory>
 
 /// `;`
 pub fn make_empty(span: Span, at: Span) -> Stmt
-    ensures { stmt_view result ≡ stmt EmptyForm span at }
+    ensures { IsStatement result span at EmptyForm }
 {
     statement(span, at, StmtForm::Empty)
 }
 
 /// A block, with the numbers of the locals that are declared directly in it.
 pub fn make_block(span: Span, at: Span, locals: Vec<u32>, parts: Vec<Rc<Stmt>>) -> Stmt
-    ensures { stmt_view result ≡ stmt (BlockForm locals.items (core_stmts (stmt_views parts.items))) span at }
+    ensures { IsStatement result span at (BlockForm locals.items
+        (core_stmts (stmt_views parts.items))) }
 {
     statement(span, at, StmtForm::Block { locals, parts })
 }
 
 /// An expression whose value is dropped.
 pub fn make_do(alloc: Global, span: Span, at: Span, expr: Expr) -> Result<Stmt, Memory>
-    ensures { IfOk result (λ s. stmt_view s ≡ stmt (DoForm (view expr)) span at) }
+    ensures { MakesStatement result span at (DoForm (view expr)) }
 {
     let expr = Rc::new(alloc, expr)?;
     Ok(statement(span, at, StmtForm::Do { expr }))
@@ -63,7 +65,8 @@ pub fn make_if(
     yes: Stmt,
     no: Option<Stmt>,
 ) -> Result<Stmt, Memory>
-    ensures { IfOk result (λ s. stmt_view s ≡ stmt (IfForm (view condition) (stmt_view yes) (maybe_stmt (option_map stmt_view no))) span at) }
+    ensures { MakesStatement result span at (IfForm (view condition) (stmt_view yes)
+        (maybe_stmt (option_map stmt_view no))) }
 {
     let condition = Rc::new(alloc, condition)?;
     let yes = Rc::new(alloc, yes)?;
@@ -80,7 +83,8 @@ pub fn make_loop(
     steps: Vec<Rc<Expr>>,
     body: Stmt,
 ) -> Result<Stmt, Memory>
-    ensures { IfOk result (λ s. stmt_view s ≡ stmt (LoopForm (view condition) (views steps.items) (stmt_view body)) span at) }
+    ensures { MakesStatement result span at (LoopForm (view condition) (views steps.items)
+        (stmt_view body)) }
 {
     let condition = Rc::new(alloc, condition)?;
     let body = Rc::new(alloc, body)?;
@@ -100,7 +104,7 @@ pub fn make_do_loop(
     body: Stmt,
     condition: Expr,
 ) -> Result<Stmt, Memory>
-    ensures { IfOk result (λ s. stmt_view s ≡ stmt (DoLoopForm (stmt_view body) (view condition)) span at) }
+    ensures { MakesStatement result span at (DoLoopForm (stmt_view body) (view condition)) }
 {
     let body = Rc::new(alloc, body)?;
     let condition = Rc::new(alloc, condition)?;
@@ -116,7 +120,8 @@ pub fn make_switch(
     selector: Expr,
     groups: Vec<Group>,
 ) -> Result<Stmt, Memory>
-    ensures { IfOk result (λ s. stmt_view s ≡ stmt (SwitchForm locals.items (view selector) (core_groups (map group_view groups.items))) span at) }
+    ensures { MakesStatement result span at (SwitchForm locals.items (view selector)
+        (core_groups (map group_view groups.items))) }
 {
     let selector = Rc::new(alloc, selector)?;
     let form = StmtForm::Switch {
@@ -135,7 +140,7 @@ pub fn make_labelled(
     name: NameId,
     body: Stmt,
 ) -> Result<Stmt, Memory>
-    ensures { IfOk result (λ s. stmt_view s ≡ stmt (LabelledForm name (stmt_view body)) span at) }
+    ensures { MakesStatement result span at (LabelledForm name (stmt_view body)) }
 {
     let body = Rc::new(alloc, body)?;
     Ok(statement(span, at, StmtForm::Labelled { name, body }))
@@ -143,14 +148,14 @@ pub fn make_labelled(
 
 /// `continue` where `again` is true, else `break`.
 pub fn make_jump(span: Span, at: Span, again: bool, label: Option<NameId>) -> Stmt
-    ensures { stmt_view result ≡ stmt (JumpForm again label) span at }
+    ensures { IsStatement result span at (JumpForm again label) }
 {
     statement(span, at, StmtForm::Jump { again, label })
 }
 
 /// `return`, with or without a value.
 pub fn make_return(alloc: Global, span: Span, at: Span, value: Option<Expr>) -> Result<Stmt, Memory>
-    ensures { IfOk result (λ s. stmt_view s ≡ stmt (ReturnForm (option_map view value)) span at) }
+    ensures { MakesStatement result span at (ReturnForm (option_map view value)) }
 {
     let value = part_if(alloc, value)?;
     Ok(statement(span, at, StmtForm::Return { value }))
@@ -158,7 +163,7 @@ pub fn make_return(alloc: Global, span: Span, at: Span, value: Option<Expr>) -> 
 
 /// `throw`
 pub fn make_throw(alloc: Global, span: Span, at: Span, value: Expr) -> Result<Stmt, Memory>
-    ensures { IfOk result (λ s. stmt_view s ≡ stmt (ThrowForm (view value)) span at) }
+    ensures { MakesStatement result span at (ThrowForm (view value)) }
 {
     let value = Rc::new(alloc, value)?;
     Ok(statement(span, at, StmtForm::Throw { value }))
@@ -173,7 +178,8 @@ pub fn make_try(
     catches: Vec<Catch>,
     last: Option<Stmt>,
 ) -> Result<Stmt, Memory>
-    ensures { IfOk result (λ s. stmt_view s ≡ stmt (TryForm (stmt_view body) (core_catches (map catch_view catches.items)) (maybe_stmt (option_map stmt_view last))) span at) }
+    ensures { MakesStatement result span at (TryForm (stmt_view body)
+        (core_catches (map catch_view catches.items)) (maybe_stmt (option_map stmt_view last))) }
 {
     let body = Rc::new(alloc, body)?;
     let last = part(alloc, last)?;
@@ -188,7 +194,8 @@ pub fn make_try(
 /// A group of a switch.
 #[tactic(auto, using(crate::proofs::Views::parts_seen))]
 pub fn make_group(labels: Vec<Label>, parts: Vec<Rc<Stmt>>) -> Group
-    ensures { group_view result ≡ group (map label_view labels.items) (core_stmts (stmt_views parts.items)) }
+    ensures { group_view result ≡ group (map label_view labels.items)
+        (core_stmts (stmt_views parts.items)) }
 {
     Group { labels, parts }
 }
