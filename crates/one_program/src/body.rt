@@ -33,10 +33,16 @@ pub fn make_body(
     result_tree: &Expr,
 ) -> Result<Option<MadeBody>, Memory>
     requires { length params.now + length statements.now < 2 ^ 31 }
-    ensures is { IfOk result (λ o. IfSome o (IsMadeBody (scope_of members.now is_static params.now (map view_statement statements.now)) (map view_statement statements.now) (view_expr result_tree.now))) }
+    ensures is { IfOk result (λ o. IfSome o (IsMadeBody
+        (scope_of members.now is_static params.now (map view_statement statements.now))
+        (map view_statement statements.now) (view_expr result_tree.now))) }
     ensures few { IfOk result (λ o. IfSome o (λ made. length made.locals.items < 2 ^ 31)) }
-    ensures fits { IfOk result (λ o. OnSome o (BodyFits (scope_of members.now is_static params.now (map view_statement statements.now)) (map view_statement statements.now) (view_expr result_tree.now))) }
-    ensures none { IfOk result (λ o. IfNone o (¬ BodyFits (scope_of members.now is_static params.now (map view_statement statements.now)) (map view_statement statements.now) (view_expr result_tree.now))) }
+    ensures fits { IfOk result (λ o. OnSome o (BodyFits
+        (scope_of members.now is_static params.now (map view_statement statements.now))
+        (map view_statement statements.now) (view_expr result_tree.now))) }
+    ensures none { IfOk result (λ o. IfNone o (¬ BodyFits
+        (scope_of members.now is_static params.now (map view_statement statements.now))
+        (map view_statement statements.now) (view_expr result_tree.now))) }
 {
     let objects = objects_of(alloc, statements)?;
     let mut locals = parameters(alloc, params)?;
@@ -70,7 +76,9 @@ pub fn make_body(
 
 /// Adds the local that a statement declares.
 fn declare(locals: &mut Vec<Variable>, tree: &Statement) -> Result<(), Memory>
-    ensures scope { OnOk result ((members : MembersOf) (is_static : Bool) (objects : List NameId) → after (scope_at members is_static locals.old.items objects) (view_statement tree.now) ≡ scope_at members is_static locals.new.items objects) }
+    ensures scope { OnOk result ((members : MembersOf) (is_static : Bool) (objects : List NameId)
+        → after (scope_at members is_static locals.old.items objects) (view_statement tree.now)
+        ≡ scope_at members is_static locals.new.items objects) }
     ensures few { OnOk result (length locals.new.items ≤ length locals.old.items + 1) }
 {
     match declared(tree) {
@@ -84,7 +92,8 @@ fn declare(locals: &mut Vec<Variable>, tree: &Statement) -> Result<(), Memory>
 
 /// The names of the locals that hold objects.
 fn objects_of(alloc: Global, statements: &[Statement]) -> Result<Vec<NameId>, Memory>
-    ensures names { IfOk result (λ names. names.items ≡ objects_of (map view_statement statements.now)) }
+    ensures names { IfOk result (λ names. names.items
+        ≡ objects_of (map view_statement statements.now)) }
     ensures few { IfOk result (λ names. length names.items ≤ length statements.now) }
 {
     let mut names = Vec::new(alloc);

@@ -85,8 +85,10 @@ pub fn main_of(names: &Names, members: &Members) -> Option<u32>
 /// The place of the static method of that name without parameters.
 fn static_without_parameters(name: NameId, heads: &[Head]) -> Option<u32>
     requires { length heads.now < 2 ^ 31 }
-    ensures found { IfSome result (λ i. slice_get heads.now i ≡ Some (record { name = name; is_static = true; arity = 0 })) }
-    ensures none { IfNone result ((i : ℕ) → ¬ slice_get heads.now i ≡ Some (record { name = name; is_static = true; arity = 0 })) }
+    ensures found { IfSome result (λ i. slice_get heads.now i
+        ≡ Some (record { name = name; is_static = true; arity = 0 })) }
+    ensures none { IfNone result ((i : ℕ) → ¬ slice_get heads.now i
+        ≡ Some (record { name = name; is_static = true; arity = 0 })) }
 {
     for (i, head) in heads.iter().enumerate() {
         if head.name.0 == name.0 && head.is_static && head.arity == 0 {
@@ -104,9 +106,12 @@ pub fn methods(
     trees: &[Member],
 ) -> Result<Option<Vec<Method>>, Memory>
     requires { declarations (map view_member trees.now) < 2 ^ 31 }
-    ensures are { IfOk result (λ o. IfSome o (λ methods. methods_of members.now (map view_member trees.now) ≡ Some (method_views methods.items))) }
-    ensures fits { IfOk result (λ o. OnSome o (MembersFit names.now members.now (map view_member trees.now))) }
-    ensures none { IfOk result (λ o. IfNone o (¬ MembersFit names.now members.now (map view_member trees.now))) }
+    ensures are { IfOk result (λ o. IfSome o (λ methods. methods_of members.now
+        (map view_member trees.now) ≡ Some (method_views methods.items))) }
+    ensures fits { IfOk result (λ o. OnSome o (MembersFit names.now members.now
+        (map view_member trees.now))) }
+    ensures none { IfOk result (λ o. IfNone o (¬ MembersFit names.now members.now
+        (map view_member trees.now))) }
 {
     let mut methods = Vec::new(alloc);
     for tree in trees {
@@ -126,9 +131,12 @@ fn add_method(
     methods: &mut Vec<Method>,
 ) -> Result<bool, Memory>
     requires { declarations_in (view_member tree.now) < 2 ^ 31 }
-    ensures adds { IfOk result (λ added. OnTrue added (AddsMethod members.now (view_member tree.now) methods.old.items methods.new.items)) }
-    ensures fits { IfOk result (λ added. OnTrue added (MemberFits names.now members.now (view_member tree.now))) }
-    ensures unfit { IfOk result (λ added. OnFalse added (¬ MemberFits names.now members.now (view_member tree.now))) }
+    ensures adds { IfOk result (λ added. OnTrue added
+        (AddsMethod members.now (view_member tree.now) methods.old.items methods.new.items)) }
+    ensures fits { IfOk result (λ added. OnTrue added
+        (MemberFits names.now members.now (view_member tree.now))) }
+    ensures unfit { IfOk result (λ added. OnFalse added
+        (¬ MemberFits names.now members.now (view_member tree.now))) }
 {
     match tree {
         Member::Field { .. } => Ok(true),
@@ -180,7 +188,7 @@ fn field(name: NameId) -> Field
 }
 
 /// The program of one class. Want of memory leaves the names as they were.
-pub fn one_class(
+pub fn make_class(
     alloc: Global,
     name: NameId,
     fields: Vec<Field>,
@@ -188,7 +196,9 @@ pub fn one_class(
     names: &mut Names,
 ) -> Result<Program, Memory>
     requires { length names.old < 2 ^ 31 }
-    ensures is { IfOk result (λ program. option_map (program_with name (map field_view fields.items) (method_views methods.items)) (number_of names.new (codes "new")) ≡ Some (program_view program)) }
+    ensures is { IfOk result (λ program. option_map
+        (program_with name (map field_view fields.items) (method_views methods.items))
+        (number_of names.new (codes "new")) ≡ Some (program_view program)) }
     ensures names { OnOk result (names.new ≡ interned names.old (codes "new")) }
     ensures err { OnErr result (names.new ≡ names.old) }
 {
@@ -207,7 +217,8 @@ pub fn one_class(
 
 /// The class of these fields and methods.
 fn class_with(alloc: Global, name: NameId, fields: Vec<Field>, methods: Vec<Method>) -> Class
-    ensures { class_view result ≡ class_with name (map field_view fields.items) (method_views methods.items) }
+    ensures { class_view result ≡ class_with name (map field_view fields.items)
+        (method_views methods.items) }
 {
     Class {
         name,

@@ -67,9 +67,12 @@ pub fn called(
     method: NameId,
     args: &[Expr],
 ) -> Result<Option<je_core::Expr>, Memory>
-    ensures is { IfOk result (λ o. IfSome o (λ node. core_of scope.now (call receiver method (view_exprs args.now)) ≡ Some (view node))) }
-    ensures fits { IfOk result (λ o. OnSome o (ExprFits scope.now (call receiver method (view_exprs args.now)))) }
-    ensures none { IfOk result (λ o. IfNone o (¬ ExprFits scope.now (call receiver method (view_exprs args.now)))) }
+    ensures is { IfOk result (λ o. IfSome o (λ node. core_of scope.now
+        (call receiver method (view_exprs args.now)) ≡ Some (view node))) }
+    ensures fits { IfOk result (λ o. OnSome o (ExprFits scope.now
+        (call receiver method (view_exprs args.now)))) }
+    ensures none { IfOk result (λ o. IfNone o (¬ ExprFits scope.now
+        (call receiver method (view_exprs args.now)))) }
 {
     let Some(callee) = scope.callee(receiver, method, args.len()) else {
         return Ok(None);
@@ -87,7 +90,8 @@ fn nodes_of(
     scope: &Scope<'_>,
     trees: &[Expr],
 ) -> Result<Option<Vec<Rc<je_core::Expr>>>, Memory>
-    ensures are { IfOk result (λ o. IfSome o (λ nodes. cores_of scope.now (view_exprs trees.now) ≡ Some (views nodes.items))) }
+    ensures are { IfOk result (λ o. IfSome o (λ nodes. cores_of scope.now (view_exprs trees.now)
+        ≡ Some (views nodes.items))) }
     ensures fits { IfOk result (λ o. OnSome o (ArgsFit scope.now (view_exprs trees.now))) }
     ensures none { IfOk result (λ o. IfNone o (¬ ArgsFit scope.now (view_exprs trees.now))) }
 {
@@ -229,7 +233,8 @@ pub fn expression(
     scope: &Scope<'_>,
     tree: &Expr,
 ) -> Result<Option<je_core::Expr>, Memory>
-    ensures is { IfOk result (λ o. IfSome o (λ node. core_of scope.now (view_expr tree.now) ≡ Some (view node))) }
+    ensures is { IfOk result (λ o. IfSome o (λ node. core_of scope.now (view_expr tree.now)
+        ≡ Some (view node))) }
     ensures fits { IfOk result (λ o. OnSome o (ExprFits scope.now (view_expr tree.now))) }
     ensures none { IfOk result (λ o. IfNone o (¬ ExprFits scope.now (view_expr tree.now))) }
 {

@@ -27,9 +27,16 @@ pub fn make_method(
     result_tree: &Expr,
 ) -> Result<Option<Method>, Memory>
     requires { length params.now + length statements.now < 2 ^ 31 }
-    ensures is { IfOk result (λ o. IfSome o (λ made. core_method members.now head.is_static head.name params.now (map view_statement statements.now) (view_expr result_tree.now) ≡ Some (method_view made))) }
-    ensures fits { IfOk result (λ o. OnSome o (MemberFits names.now members.now (method_tree head.is_static head.name params.now (map view_statement statements.now) (view_expr result_tree.now)))) }
-    ensures none { IfOk result (λ o. IfNone o (¬ MemberFits names.now members.now (method_tree head.is_static head.name params.now (map view_statement statements.now) (view_expr result_tree.now)))) }
+    ensures is { IfOk result
+        (λ o. IfSome o (λ made. core_method members.now head.is_static head.name params.now
+        (map view_statement statements.now) (view_expr result_tree.now)
+        ≡ Some (method_view made))) }
+    ensures fits { IfOk result (λ o. OnSome o (MemberFits names.now members.now
+        (method_tree head.is_static head.name params.now (map view_statement statements.now)
+        (view_expr result_tree.now)))) }
+    ensures none { IfOk result (λ o. IfNone o (¬ MemberFits names.now members.now
+        (method_tree head.is_static head.name params.now (map view_statement statements.now)
+        (view_expr result_tree.now)))) }
 {
     if is_object_method(names, head.name) || !are_distinct(params) {
         return Ok(None);
@@ -51,7 +58,9 @@ pub fn make_method(
 /// The method of that head and body.
 fn method_of(alloc: Global, head: Head, params: &[NameId], body: MadeBody) -> Result<Method, Memory>
     requires { length body.locals.items < 2 ^ 31 }
-    ensures { IfOk result (λ made. method_view made ≡ method_with head.is_static head.name params.now body.locals.items (stmt_views body.parts.items)) }
+    ensures { IfOk result (λ made. method_view made
+        ≡ method_with head.is_static head.name params.now body.locals.items
+        (stmt_views body.parts.items)) }
 {
     let locals = locals_of(alloc, &body.locals)?;
     let numbers = numbers(alloc, params.len(), body.locals.len())?;

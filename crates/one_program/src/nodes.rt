@@ -56,7 +56,12 @@ pub fn flags(is_static: bool) -> Flags
 }
 
 fn mark(ty: Ty) -> Mark
-    ensures { result ≡ record { ty = ty; span = record { file = 0; start = 0; end = 0 }; at = record { file = 0; start = 0; end = 0 } } }
+    ensures { result ≡ record {
+      ty = ty;
+      span = record { file = 0; start = 0; end = 0 };
+      at = record
+          { file = 0; start = 0; end = 0 };
+    } }
 {
     Mark {
         ty,
@@ -114,7 +119,8 @@ pub fn instance_call(
     number: u32,
     args: Vec<Rc<Expr>>,
 ) -> Result<Expr, Memory>
-    ensures { IfOk result (λ node. view node ≡ the_instance_call (view receiver) number (views args.items)) }
+    ensures { IfOk result (λ node. view node ≡ the_instance_call (view receiver) number
+        (views args.items)) }
 {
     make_call_virtual(alloc, mark(INT), receiver, ONE_CLASS, number, args)
 }

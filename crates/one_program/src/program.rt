@@ -29,11 +29,14 @@ pub fn build(alloc: Global, one: &One, names: &mut Names) -> Result<Option<Built
     requires few_declarations { declarations (view_one one.now).members < 2 ^ 31 }
 
     ensures fits { IfOk result (λ o. OnSome o (Fits names.old (view_one one.now))) }
-    ensures elaborates { IfOk result (λ o. IfSome o (λ built. program_of names.new (view_one one.now) ≡ Some (program_view built.program))) }
-    ensures main { IfOk result (λ o. IfSome o (λ built. IsMain names.old (members_of (view_one one.now)) built.main)) }
+    ensures elaborates { IfOk result (λ o. IfSome o
+        (λ built. program_of names.new (view_one one.now) ≡ Some (program_view built.program))) }
+    ensures main { IfOk result (λ o. IfSome o (λ built. IsMain names.old
+        (members_of (view_one one.now)) built.main)) }
     ensures unfit { IfOk result (λ o. IfNone o (¬ Fits names.old (view_one one.now))) }
 
-    ensures names_some { IfOk result (λ o. OnSome o (names.new ≡ interned names.old (codes "new"))) }
+    ensures names_some { IfOk result (λ o. OnSome o
+        (names.new ≡ interned names.old (codes "new"))) }
     ensures names_none { IfOk result (λ o. IfNone o (names.new ≡ names.old)) }
     ensures names_err { OnErr result (names.new ≡ names.old) }
 {
@@ -45,7 +48,7 @@ pub fn build(alloc: Global, one: &One, names: &mut Names) -> Result<Option<Built
         return Ok(None);
     };
     let fields = class::fields(alloc, &members.fields)?;
-    let program = class::one_class(alloc, one.name, fields, methods, names)?;
+    let program = class::make_class(alloc, one.name, fields, methods, names)?;
     Ok(Some(Built { program, main }))
 }
 

@@ -254,7 +254,8 @@ impl Scope<'_> {
     /// so many parameters.
     fn method(&self, name: NameId, arity: usize) -> Option<(u32, bool)>
         ensures found { IfSome result (λ m. IsMethodOf self.now name m.0 m.1 arity) }
-        ensures none { IfNone result ((number : ℕ) (is_static : Bool) → ¬ IsMethodOf self.now name number is_static arity) }
+        ensures none { IfNone result ((number : ℕ) (is_static : Bool)
+            → ¬ IsMethodOf self.now name number is_static arity) }
     {
         let members = self.members;
         let number = place(name, &members.methods)?;

@@ -9,5 +9,6 @@ ghost use Rattle.one_program.specs.Sizes.{declarations};
 /// A One has at most as many members, parameters and statements as tokens: a caller that read it from fewer than 2^31
 /// tokens meets what `build` requires of its size.
 pub fn as_few_as_tokens()
-    ensures { (one : OneTree) (tokens : List Token) → Spells one tokens → declarations one.members ≤ length tokens }
+    ensures { (one : OneTree) (tokens : List Token) → Spells one tokens
+        → declarations one.members ≤ length tokens }
 {}

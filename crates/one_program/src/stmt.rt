@@ -21,9 +21,11 @@ pub fn statement(
     scope: &BodyScope<'_>,
     tree: &Statement,
 ) -> Result<Option<Stmt>, Memory>
-    ensures is { IfOk result (λ o. IfSome o (λ node. statement_of scope.now (view_statement tree.now) ≡ Some (stmt_view node))) }
+    ensures is { IfOk result (λ o. IfSome o (λ node. statement_of scope.now
+        (view_statement tree.now) ≡ Some (stmt_view node))) }
     ensures fits { IfOk result (λ o. OnSome o (StatementFits scope.now (view_statement tree.now))) }
-    ensures none { IfOk result (λ o. IfNone o (¬ StatementFits scope.now (view_statement tree.now))) }
+    ensures none { IfOk result (λ o. IfNone o (¬ StatementFits scope.now
+        (view_statement tree.now))) }
 {
     match tree {
         Statement::Declare { name, value } => declare(alloc, scope, *name, value),
@@ -60,9 +62,12 @@ fn declare(
     name: NameId,
     value: &Expr,
 ) -> Result<Option<Stmt>, Memory>
-    ensures is { IfOk result (λ o. IfSome o (λ node. statement_of scope.now (declare_tree name (view_expr value.now)) ≡ Some (stmt_view node))) }
-    ensures fits { IfOk result (λ o. OnSome o (StatementFits scope.now (declare_tree name (view_expr value.now)))) }
-    ensures none { IfOk result (λ o. IfNone o (¬ StatementFits scope.now (declare_tree name (view_expr value.now)))) }
+    ensures is { IfOk result (λ o. IfSome o (λ node. statement_of scope.now
+        (declare_tree name (view_expr value.now)) ≡ Some (stmt_view node))) }
+    ensures fits { IfOk result (λ o. OnSome o (StatementFits scope.now
+        (declare_tree name (view_expr value.now)))) }
+    ensures none { IfOk result (λ o. IfNone o (¬ StatementFits scope.now
+        (declare_tree name (view_expr value.now)))) }
 {
     if !scope.scope().is_new(name) {
         return Ok(None);
@@ -81,9 +86,12 @@ fn make(
     name: NameId,
     made: NameId,
 ) -> Result<Option<Stmt>, Memory>
-    ensures is { IfOk result (λ o. IfSome o (λ node. statement_of scope.now (make_tree class name made) ≡ Some (stmt_view node))) }
-    ensures fits { IfOk result (λ o. OnSome o (StatementFits scope.now (make_tree class name made))) }
-    ensures none { IfOk result (λ o. IfNone o (¬ StatementFits scope.now (make_tree class name made))) }
+    ensures is { IfOk result (λ o. IfSome o (λ node. statement_of scope.now
+        (make_tree class name made) ≡ Some (stmt_view node))) }
+    ensures fits { IfOk result (λ o. OnSome o (StatementFits scope.now
+        (make_tree class name made))) }
+    ensures none { IfOk result (λ o. IfNone o (¬ StatementFits scope.now
+        (make_tree class name made))) }
 {
     if !scope.scope().is_new(name) || !scope.is_class(class) || !scope.is_class(made) {
         return Ok(None);
@@ -99,9 +107,12 @@ fn assign(
     name: NameId,
     value: &Expr,
 ) -> Result<Option<Stmt>, Memory>
-    ensures is { IfOk result (λ o. IfSome o (λ node. statement_of scope.now (assign_tree name (view_expr value.now)) ≡ Some (stmt_view node))) }
-    ensures fits { IfOk result (λ o. OnSome o (StatementFits scope.now (assign_tree name (view_expr value.now)))) }
-    ensures none { IfOk result (λ o. IfNone o (¬ StatementFits scope.now (assign_tree name (view_expr value.now)))) }
+    ensures is { IfOk result (λ o. IfSome o (λ node. statement_of scope.now
+        (assign_tree name (view_expr value.now)) ≡ Some (stmt_view node))) }
+    ensures fits { IfOk result (λ o. OnSome o (StatementFits scope.now
+        (assign_tree name (view_expr value.now)))) }
+    ensures none { IfOk result (λ o. IfNone o (¬ StatementFits scope.now
+        (assign_tree name (view_expr value.now)))) }
 {
     let scope = scope.scope();
     let Some(place) = scope.int(name) else {
@@ -121,9 +132,12 @@ fn perform(
     method: NameId,
     args: &[Expr],
 ) -> Result<Option<Stmt>, Memory>
-    ensures is { IfOk result (λ o. IfSome o (λ node. statement_of scope.now (perform_tree receiver method (view_exprs args.now)) ≡ Some (stmt_view node))) }
-    ensures fits { IfOk result (λ o. OnSome o (StatementFits scope.now (perform_tree receiver method (view_exprs args.now)))) }
-    ensures none { IfOk result (λ o. IfNone o (¬ StatementFits scope.now (perform_tree receiver method (view_exprs args.now)))) }
+    ensures is { IfOk result (λ o. IfSome o (λ node. statement_of scope.now
+        (perform_tree receiver method (view_exprs args.now)) ≡ Some (stmt_view node))) }
+    ensures fits { IfOk result (λ o. OnSome o (StatementFits scope.now
+        (perform_tree receiver method (view_exprs args.now)))) }
+    ensures none { IfOk result (λ o. IfNone o (¬ StatementFits scope.now
+        (perform_tree receiver method (view_exprs args.now)))) }
 {
     let Some(call) = called(alloc, &scope.scope(), receiver, method, args)? else {
         return Ok(None);

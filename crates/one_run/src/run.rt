@@ -21,8 +21,11 @@ const RUN_UNITS: u64 = 1_000_000;
 
 /// Calls `main`, from a world without objects. It is a call that only replies or is spent.
 pub fn run_main(alloc: Global, program: &Program, main: u32) -> Result<Answer, Memory>
-    requires { Replies (call (program_view program.now) run_units receiver.None one_class main [] new_world no_outside) }
-    ensures { IfOk result (IsAnswerTo (call (program_view program.now) run_units receiver.None one_class main [] new_world no_outside)) }
+    requires { Replies (call (program_view program.now) run_units receiver.None one_class main []
+        new_world no_outside) }
+    ensures { IfOk result
+        (IsAnswerTo (call (program_view program.now) run_units receiver.None one_class main []
+        new_world no_outside)) }
 {
     let mut heap = Heap::new(alloc, 0)?;
     let main = Call {

@@ -9,7 +9,7 @@ use Rattle.one_tokens.specs.declared.token.Token.TheVariants.{Identifier, LeftPa
 use Rattle.one_syntax.specs.Trees.{ExprTree, ExprTrees, append, decimal, name, call, brackets, binary, none, more}
 use Rattle.one_syntax.specs.Height.{expr_height, args_height}
 use Rattle.one_syntax.specs.Grammar.{SpellsSum, is_product, is_plus, is_minus, SpellsProduct, is_primary, is_times, SpellsPrimary, is_decimal, is_name, is_call, is_brackets, SpellsCall, is_simple, is_on, SpellsArgs, no_args, some_args, SpellsMoreArgs, no_more_args, one_more_arg}
-use Rattle.one_syntax.specs.Reading.{Read, ◌>>=◌, more_args_at, args_at, call_at, brackets_at, call_expr_at, primary_at, joined, factors_at, product_at, terms_at, sum_at, expr_at}
+use Rattle.one_syntax.specs.way.Reading.{Read, ◌>>=◌, more_args_at, args_at, call_at, brackets_at, call_expr_at, primary_at, joined, factors_at, product_at, terms_at, sum_at, expr_at}
 use Rattle.one_syntax.proofs.Shorter.{Less, Shortens, expr_less}
 use Rattle.one_syntax.proofs.Loops.{factors_go, terms_go}
 use Rattle.one_syntax.proofs.Sound.{append_none, append_assoc}

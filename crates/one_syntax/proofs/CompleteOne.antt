@@ -7,7 +7,7 @@ use Rattle.one_tokens.specs.declared.token.Token.TheVariants.{Int, Return, Ident
 use Rattle.one_syntax.specs.Trees.{ExprTree, ExprTrees, StatementTree, perform, MemberTree, OneTree}
 use Rattle.one_syntax.specs.Height.{expr_height, statement_height, body_height, member_height, members_height, height}
 use Rattle.one_syntax.specs.Grammar.{SpellsSum, SpellsCall, is_simple, is_on, SpellsStatement, is_declare, is_make, is_assign, is_perform, SpellsBody, is_return, one_statement, SpellsParams, no_params, last_param, one_param, SpellsMethod, is_method, SpellsMember, is_field, is_static, is_instance, SpellsMembers, no_members, one_member, Spells, is_one}
-use Rattle.one_syntax.specs.Reading.{expr_at, ended_at, declare_at, assign_at, perform_at, statement_at, statements_at, returned_at, body_at, more_params_at, params_at, method_at, member_at, members_at, one_at}
+use Rattle.one_syntax.specs.way.Reading.{expr_at, ended_at, declare_at, assign_at, perform_at, statement_at, statements_at, returned_at, body_at, more_params_at, params_at, method_at, member_at, members_at, one_at}
 use Rattle.one_syntax.proofs.Shorter.{expr_less}
 use Rattle.one_syntax.proofs.Turns.{statements_go, members_go}
 use Rattle.one_syntax.proofs.Complete.{expr_complete, call_complete}

@@ -4,7 +4,7 @@ use Rattle.je_core.specs.declared.expr.BinOp.TheVariants.{Mul, Add, Sub}
 use Rattle.one_tokens.specs.declared.token.Token.{Token}
 use Rattle.one_tokens.specs.declared.token.Token.TheVariants.{Comma, Plus, Minus, Star}
 use Rattle.one_syntax.specs.Trees.{ExprTree, ExprTrees, append, none, more}
-use Rattle.one_syntax.specs.Reading.{Read, more_args_at, primary_at, joined, factors_at, product_at, terms_at}
+use Rattle.one_syntax.specs.way.Reading.{Read, more_args_at, primary_at, joined, factors_at, product_at, terms_at}
 use Rattle.one_syntax.proofs.Rules.{bind_same}
 use Rattle.one_syntax.proofs.Shorter.{Less, Shortens, joined_less, primary_less, product_less}
 

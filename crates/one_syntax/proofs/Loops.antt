@@ -7,7 +7,7 @@ use Rattle.one_tokens.specs.declared.token.Token.TheVariants.{Comma, Plus, Minus
 use Rattle.one_syntax.specs.declared.tree.Expr.{Expr}
 use Rattle.one_syntax.specs.Trees.{ExprTree, append, none, more, view_expr, view_exprs}
 use Rattle.one_syntax.specs.Height.{expr_height, args_height}
-use Rattle.one_syntax.specs.Reading.{more_args_at, primary_at, joined, factors_at, product_at, terms_at, additive_at, Read}
+use Rattle.one_syntax.specs.way.Reading.{more_args_at, primary_at, joined, factors_at, product_at, terms_at, additive_at, Read}
 use Rattle.one_syntax.proofs.Rules.{first_same, second_same}
 use Rattle.one_syntax.proofs.Shorter.{Less, Shortens, joined_less, primary_less, product_less}
 use Rattle.one_syntax.proofs.Fuel.{more_args_fuel, factors_fuel, terms_fuel}

@@ -6,8 +6,8 @@ use Rattle.one_syntax.specs.declared.tree.One.{One}
 use Rattle.one_syntax.specs.Trees.{OneTree, view_one}
 use Rattle.one_syntax.specs.Height.{height}
 use Rattle.one_syntax.specs.Grammar.{Spells}
-use Rattle.one_syntax.specs.Reading.{one_at}
-use Rattle.one_syntax.specs.Views.{seen_one}
+use Rattle.one_syntax.specs.way.Reading.{one_at}
+use Rattle.one_syntax.specs.way.Views.{seen_one}
 use Rattle.one_syntax.proofs.SoundOne.{IsOne, one_sound}
 use Rattle.one_syntax.proofs.CompleteOne.{one_complete}
 

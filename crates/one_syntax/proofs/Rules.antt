@@ -1,6 +1,6 @@
 -- Rules for what holds of the answer of a reading, if there is one.
 use Rattle.std.proofs.Common.{◌≡◌, Bool, true, false, cond, Option, Some, None, IfSome, refl, ap}
-use Rattle.one_syntax.specs.Reading.{◌>>=◌, with}
+use Rattle.one_syntax.specs.way.Reading.{◌>>=◌, with}
 
 pub bind : {A B : Type 0} (o : Option A) (f : A → Option B) (P : A → Type 0) (Q : B → Type 0) → IfSome o P → ((x : A) → P x → IfSome (f x) Q) → IfSome (o >>= f) Q
 bind (Some x) f P Q h g = g x h

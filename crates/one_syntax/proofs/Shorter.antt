@@ -7,7 +7,7 @@ use Rattle.one_tokens.specs.declared.token.Token.{Token}
 use Rattle.one_tokens.specs.declared.token.Token.TheVariants.{Identifier, Decimal, LeftParen, RightParen, Comma, Dot, Plus, Minus, Star}
 use Rattle.one_syntax.specs.Trees.{ExprTree, ExprTrees, none, more}
 use Rattle.one_syntax.specs.Height.{expr_height}
-use Rattle.one_syntax.specs.Reading.{Read, Parts, ◌>>=◌, behind_paren, more_args_at, args_at, call_at, brackets_at, call_expr_at, primary_at, joined, factors_at, product_at, terms_at, sum_at, expr_at}
+use Rattle.one_syntax.specs.way.Reading.{Read, Parts, ◌>>=◌, behind_paren, more_args_at, args_at, call_at, brackets_at, call_expr_at, primary_at, joined, factors_at, product_at, terms_at, sum_at, expr_at}
 use Rattle.one_syntax.proofs.Rules.{bind, choose, weaken}
 
 -- fewer tokens than these are left

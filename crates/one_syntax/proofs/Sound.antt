@@ -7,7 +7,7 @@ use Rattle.one_tokens.specs.declared.token.Token.TheVariants.{Identifier, Decima
 use Rattle.one_syntax.specs.Trees.{ExprTree, ExprTrees, append, call, none, more}
 use Rattle.one_syntax.specs.Height.{expr_height, args_height}
 use Rattle.one_syntax.specs.Grammar.{SpellsSum, is_product, is_plus, is_minus, SpellsProduct, is_primary, is_times, SpellsPrimary, is_decimal, is_name, is_call, is_brackets, SpellsCall, is_simple, is_on, SpellsArgs, no_args, some_args, SpellsMoreArgs, no_more_args, one_more_arg}
-use Rattle.one_syntax.specs.Reading.{Read, Parts, ◌>>=◌, behind_paren, more_args_at, args_at, call_at, brackets_at, call_expr_at, primary_at, joined, factors_at, product_at, terms_at, sum_at, expr_at}
+use Rattle.one_syntax.specs.way.Reading.{Read, Parts, ◌>>=◌, behind_paren, more_args_at, args_at, call_at, brackets_at, call_expr_at, primary_at, joined, factors_at, product_at, terms_at, sum_at, expr_at}
 use Rattle.one_syntax.proofs.Rules.{bind, choose, weaken}
 
 pub record IsSum (h : ℕ) (ts : List Token) (x : ExprTree × List Token) : Type 0 where

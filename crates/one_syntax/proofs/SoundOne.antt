@@ -7,7 +7,7 @@ use Rattle.one_tokens.specs.declared.token.Token.TheVariants.{Class, Int, Static
 use Rattle.one_syntax.specs.Trees.{ExprTree, StatementTree, MemberTree, OneTree}
 use Rattle.one_syntax.specs.Height.{expr_height, statement_height, body_height, types_height, member_height, members_height, height}
 use Rattle.one_syntax.specs.Grammar.{SpellsSum, SpellsCall, SpellsStatement, is_declare, is_make, is_assign, is_perform, SpellsBody, is_return, one_statement, SpellsParams, no_params, last_param, one_param, SpellsMethod, is_method, SpellsMember, is_field, is_static, is_instance, SpellsMembers, no_members, one_member, Spells, is_one}
-use Rattle.one_syntax.specs.Reading.{behind_semicolon, behind_left_brace, behind_right_brace, call_at, expr_at, ended_at, declare_at, assign_at, perform_at, statement_at, statements_at, returned_at, body_at, more_params_at, params_at, method_at, member_at, members_at, whole, one_at}
+use Rattle.one_syntax.specs.way.Reading.{behind_semicolon, behind_left_brace, behind_right_brace, call_at, expr_at, ended_at, declare_at, assign_at, perform_at, statement_at, statements_at, returned_at, body_at, more_params_at, params_at, method_at, member_at, members_at, whole, one_at}
 use Rattle.one_syntax.proofs.Rules.{bind, weaken, with_has}
 use Rattle.one_syntax.proofs.Sound.{IsSum, IsCall, expr_sound, call_sound}
 

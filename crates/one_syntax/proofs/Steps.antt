@@ -1,7 +1,7 @@
 -- The parser's definitions, step by step.
 use Rattle.std.proofs.Common.{◌≡◌, ℕ, zero, suc, ◌-◌, ◌<◌, List, None, refl, arith, sub-one}
 use Rattle.one_tokens.specs.declared.token.Token.{Token}
-use Rattle.one_syntax.specs.Reading.{sum_at, expr_at}
+use Rattle.one_syntax.specs.way.Reading.{sum_at, expr_at}
 
 pub expr_at_zero : (ts : List Token) → expr_at 0 ts ≡ None
 unfolding expr_at

@@ -7,7 +7,7 @@ use Rattle.one_tokens.specs.declared.token.Token.TheVariants.{Int, Static, Retur
 use Rattle.one_syntax.specs.declared.tree.Statement.{Statement}
 use Rattle.one_syntax.specs.declared.tree.Member.{Member}
 use Rattle.one_syntax.specs.Trees.{StatementTree, MemberTree, view_statement, view_member}
-use Rattle.one_syntax.specs.Reading.{behind_semicolon, behind_left_brace, behind_right_brace, call_at, expr_at, ended_at, declare_at, assign_at, perform_at, statement_at, statements_at, returned_at, body_at, more_params_at, params_at, method_at, member_at, members_at}
+use Rattle.one_syntax.specs.way.Reading.{behind_semicolon, behind_left_brace, behind_right_brace, call_at, expr_at, ended_at, declare_at, assign_at, perform_at, statement_at, statements_at, returned_at, body_at, more_params_at, params_at, method_at, member_at, members_at}
 use Rattle.one_syntax.proofs.Rules.{bind, weaken, with_same, with_has}
 use Rattle.one_syntax.proofs.Shorter.{Less, Shortens, expr_less, call_less}
 

@@ -1,5 +1,4 @@
 pub mod Trees
 pub mod Height
 pub mod Grammar
-pub mod Reading
-pub mod Views
+pub mod way

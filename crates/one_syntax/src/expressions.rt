@@ -2,8 +2,8 @@
 ghost use Rattle.std.specs.Prelude.{◌≡◌, ℕ, ◌+◌, ◌-◌, ◌<◌, ◌≤◌, ◌^◌, max, IfOk, IfSome};
 ghost use Rattle.one_syntax.specs.Trees.{view_expr, view_exprs, call, binary};
 ghost use Rattle.one_syntax.specs.Height.{expr_height};
-ghost use Rattle.one_syntax.specs.Reading.{more_args_at, args_at, call_at, brackets_at, call_expr_at, primary_at, joined, additive_at, factors_at, product_at, terms_at, sum_at, expr_at};
-ghost use Rattle.one_syntax.specs.Views.{seen, seen_operator, IsHeight, Fits, seen_args, ArgsFit, seen_call, CallFits};
+ghost use Rattle.one_syntax.specs.way.Reading.{more_args_at, args_at, call_at, brackets_at, call_expr_at, primary_at, joined, additive_at, factors_at, product_at, terms_at, sum_at, expr_at};
+ghost use Rattle.one_syntax.specs.way.Views.{seen, seen_operator, IsHeight, Fits, seen_args, ArgsFit, seen_call, CallFits};
 
 use crate::tree::Expr;
 use je_core::{BinOp, Memory, NameId};
@@ -50,7 +50,7 @@ pub fn expr<'a>(alloc: Global, tokens: &'a [Token], limit: u32) -> Result<Option
 }
 
 #[cycle(expression)]
-#[tactic(auto, unfolding(crate::specs::Reading::sum_at, crate::specs::Reading::terms_at))]
+#[tactic(auto, unfolding(crate::specs::way::Reading::sum_at, crate::specs::way::Reading::terms_at))]
 fn sum<'a>(alloc: Global, tokens: &'a [Token], below: u32) -> Result<Option<Found<'a>>, Memory>
     requires { below < 2 ^ 32 - 1 }
     ensures value { IfOk result (λ o. seen o ≡ sum_at below (expr_at below) tokens.now) }
@@ -83,7 +83,7 @@ fn additive(tokens: &[Token]) -> Option<(BinOp, &[Token])>
 }
 
 #[cycle(expression)]
-#[tactic(auto, unfolding(crate::specs::Reading::product_at, crate::specs::Reading::factors_at))]
+#[tactic(auto, unfolding(crate::specs::way::Reading::product_at, crate::specs::way::Reading::factors_at))]
 fn product<'a>(alloc: Global, tokens: &'a [Token], below: u32) -> Result<Option<Found<'a>>, Memory>
     requires { below < 2 ^ 32 - 1 }
     ensures value { IfOk result (λ o. seen o ≡ product_at below (expr_at below) tokens.now) }
@@ -105,7 +105,7 @@ fn product<'a>(alloc: Global, tokens: &'a [Token], below: u32) -> Result<Option<
 }
 
 /// The operator's tree, where neither operand is higher than `below`.
-#[tactic(auto, unfolding(crate::specs::Reading::joined))]
+#[tactic(auto, unfolding(crate::specs::way::Reading::joined))]
 fn joined<'a>(
     alloc: Global,
     op: BinOp,
@@ -116,7 +116,8 @@ fn joined<'a>(
     requires room { below < 2 ^ 32 - 1 }
     requires left_height { left.height ≡ expr_height (view_expr left.tree) }
     requires right_height { right.height ≡ expr_height (view_expr right.tree) }
-    ensures value { IfOk result (λ o. seen o ≡ joined below op (view_expr left.entry.tree) (view_expr right.entry.tree, right.entry.rest.now)) }
+    ensures value { IfOk result (λ o. seen o ≡ joined below op (view_expr left.entry.tree)
+        (view_expr right.entry.tree, right.entry.rest.now)) }
     ensures height { IfOk result IsHeight }
     ensures limit { IfOk result (λ o. IfSome o (λ x. x.height ≤ below + 1)) }
     ensures rest { IfOk result (λ o. IfSome o (λ x. x.rest.now ≡ right.entry.rest.now)) }
@@ -137,7 +138,7 @@ fn joined<'a>(
 }
 
 #[cycle(expression)]
-#[tactic(auto, unfolding(crate::specs::Reading::primary_at))]
+#[tactic(auto, unfolding(crate::specs::way::Reading::primary_at))]
 fn primary<'a>(alloc: Global, tokens: &'a [Token], below: u32) -> Result<Option<Found<'a>>, Memory>
     requires { below < 2 ^ 32 - 1 }
     ensures value { IfOk result (λ o. seen o ≡ primary_at below (expr_at below) tokens.now) }
@@ -164,7 +165,7 @@ fn primary<'a>(alloc: Global, tokens: &'a [Token], below: u32) -> Result<Option<
 
 /// The expression in brackets, behind the opening one.
 #[cycle(expression)]
-#[tactic(auto, unfolding(crate::specs::Reading::brackets_at))]
+#[tactic(auto, unfolding(crate::specs::way::Reading::brackets_at))]
 fn brackets<'a>(alloc: Global, tokens: &'a [Token], below: u32) -> Result<Option<Found<'a>>, Memory>
     requires { below < 2 ^ 32 - 1 }
     ensures value { IfOk result (λ o. seen o ≡ brackets_at below (expr_at below) tokens.now) }
@@ -186,7 +187,7 @@ fn brackets<'a>(alloc: Global, tokens: &'a [Token], below: u32) -> Result<Option
 }
 
 #[cycle(expression)]
-#[tactic(auto, unfolding(crate::specs::Reading::call_expr_at))]
+#[tactic(auto, unfolding(crate::specs::way::Reading::call_expr_at))]
 fn call_expr<'a>(
     alloc: Global,
     tokens: &'a [Token],
@@ -219,7 +220,7 @@ fn make_call(receiver: Option<NameId>, method: NameId, args: Vec<Expr>) -> Expr
 
 /// Reads a call of height at most `below + 1`.
 #[cycle(expression)]
-#[tactic(auto, unfolding(crate::specs::Reading::call_at))]
+#[tactic(auto, unfolding(crate::specs::way::Reading::call_at))]
 pub fn call<'a>(
     alloc: Global,
     tokens: &'a [Token],
@@ -258,7 +259,7 @@ pub fn call<'a>(
 
 /// The arguments behind the opening bracket, up to the closing one.
 #[cycle(expression)]
-#[tactic(auto, unfolding(crate::specs::Reading::args_at, crate::specs::Reading::more_args_at))]
+#[tactic(auto, unfolding(crate::specs::way::Reading::args_at, crate::specs::way::Reading::more_args_at))]
 fn args<'a>(alloc: Global, tokens: &'a [Token], below: u32) -> Result<Option<FoundArgs<'a>>, Memory>
     requires { below < 2 ^ 32 - 1 }
     ensures value { IfOk result (λ o. seen_args o ≡ args_at below (expr_at below) tokens.now) }

@@ -24,12 +24,13 @@ pub fn read(alloc: Global, tokens: &[Token]) -> Result<Option<One>, Memory>
     ensures low { IfOk result (λ o. IfSome o (λ one. height (view_one one) ≤ max_height)) }
 
     // Nothing is given only where there is no such class.
-    ensures none { IfOk result (λ o. IfNone o ((one : OneTree) → Spells one tokens.now → ¬ height one ≤ max_height)) }
+    ensures none { IfOk result (λ o. IfNone o ((one : OneTree) → Spells one tokens.now
+        → ¬ height one ≤ max_height)) }
 {
     one(alloc, tokens, MAX_HEIGHT - LEVELS_ABOVE_VALUE)
 }
 
 /// No tokens are spelled by two trees.
-pub fn unique_tree()
+pub fn tree_unique()
     ensures { (a b : OneTree) (tokens : List Token) → Spells a tokens → Spells b tokens → a ≡ b }
 {}

@@ -1,7 +1,7 @@
 // Reads members and the class, by a function for each definition of `specs::Reading`.
 ghost use Rattle.std.specs.Prelude.{◌≡◌, ℕ, ◌+◌, ◌-◌, ◌<◌, ◌≤◌, ◌^◌, length, [], IfOk, IfSome};
-ghost use Rattle.one_syntax.specs.Reading.{params_at, method_at, member_at, members_at, one_at};
-ghost use Rattle.one_syntax.specs.Views.{seen_params, seen_member, seen_members, seen_one};
+ghost use Rattle.one_syntax.specs.way.Reading.{params_at, method_at, member_at, members_at, one_at};
+ghost use Rattle.one_syntax.specs.way.Views.{seen_params, seen_member, seen_members, seen_one};
 
 use crate::statements::body;
 use crate::tree::{Member, One};
@@ -32,7 +32,7 @@ pub struct FoundMembers<'a> {
 
 /// Reads a class that all tokens spell. The value of an assignment is of height at most `limit`, and every other
 /// expression of a statement of height at most `limit + 1`.
-#[tactic(auto, unfolding(crate::specs::Reading::one_at))]
+#[tactic(auto, unfolding(crate::specs::way::Reading::one_at))]
 pub fn one(alloc: Global, tokens: &[Token], limit: u32) -> Result<Option<One>, Memory>
     requires { limit < 2 ^ 32 - 1 }
     ensures { IfOk result (λ o. seen_one o ≡ one_at limit tokens.now) }
@@ -59,7 +59,8 @@ pub fn one(alloc: Global, tokens: &[Token], limit: u32) -> Result<Option<One>, M
 /// Reads members as long as there are any.
 fn members<'a>(alloc: Global, tokens: &'a [Token], limit: u32) -> Result<FoundMembers<'a>, Memory>
     requires { limit < 2 ^ 32 - 1 }
-    ensures { IfOk result (λ x. seen_members x ≡ members_at limit (length tokens.now) [] tokens.now) }
+    ensures { IfOk result (λ x. seen_members x
+        ≡ members_at limit (length tokens.now) [] tokens.now) }
 {
     let mut list = Vec::new(alloc);
     let mut rest = tokens;
@@ -70,7 +71,7 @@ fn members<'a>(alloc: Global, tokens: &'a [Token], limit: u32) -> Result<FoundMe
     Ok(FoundMembers { list, rest })
 }
 
-#[tactic(auto, unfolding(crate::specs::Reading::member_at))]
+#[tactic(auto, unfolding(crate::specs::way::Reading::member_at))]
 fn member<'a>(
     alloc: Global,
     tokens: &'a [Token],
@@ -108,7 +109,7 @@ fn member<'a>(
 }
 
 /// Reads a method's parameters and body.
-#[tactic(auto, unfolding(crate::specs::Reading::method_at))]
+#[tactic(auto, unfolding(crate::specs::way::Reading::method_at))]
 fn method<'a>(
     alloc: Global,
     is_static: bool,
@@ -142,7 +143,7 @@ fn method<'a>(
 }
 
 /// Reads parameters behind the opening bracket, up to the closing one.
-#[tactic(auto, unfolding(crate::specs::Reading::params_at, crate::specs::Reading::more_params_at))]
+#[tactic(auto, unfolding(crate::specs::way::Reading::params_at, crate::specs::way::Reading::more_params_at))]
 fn params<'a>(alloc: Global, tokens: &'a [Token]) -> Result<Option<FoundParams<'a>>, Memory>
     ensures value { IfOk result (λ o. seen_params o ≡ params_at tokens.now) }
     ensures shorter { IfOk result (λ o. IfSome o (λ x. length x.rest.now < length tokens.now)) }

@@ -1,7 +1,7 @@
 // Reads statements, by a function for each definition of `specs::Reading`.
 ghost use Rattle.std.specs.Prelude.{◌≡◌, ℕ, ◌+◌, ◌-◌, ◌<◌, ◌≤◌, ◌^◌, length, [], IfOk, IfSome};
-ghost use Rattle.one_syntax.specs.Reading.{ended_at, declare_at, assign_at, perform_at, statement_at, statements_at, returned_at, body_at};
-ghost use Rattle.one_syntax.specs.Views.{seen, seen_statement, seen_statements, seen_body};
+ghost use Rattle.one_syntax.specs.way.Reading.{ended_at, declare_at, assign_at, perform_at, statement_at, statements_at, returned_at, body_at};
+ghost use Rattle.one_syntax.specs.way.Views.{seen, seen_statement, seen_statements, seen_body};
 
 use crate::expressions::{Found, call, expr};
 use crate::tree::{Expr, Statement};
@@ -33,7 +33,7 @@ pub struct FoundBody<'a> {
 
 /// Reads a method's body behind its opening brace. The value of an assignment is of height at most `limit`, and every
 /// other expression of a statement of height at most `limit + 1`.
-#[tactic(auto, unfolding(crate::specs::Reading::body_at))]
+#[tactic(auto, unfolding(crate::specs::way::Reading::body_at))]
 pub fn body<'a>(
     alloc: Global,
     tokens: &'a [Token],
@@ -61,7 +61,8 @@ fn statements<'a>(
     limit: u32,
 ) -> Result<FoundStatements<'a>, Memory>
     requires { limit < 2 ^ 32 - 1 }
-    ensures value { IfOk result (λ x. seen_statements x ≡ statements_at limit (length tokens.now) [] tokens.now) }
+    ensures value { IfOk result (λ x. seen_statements x
+        ≡ statements_at limit (length tokens.now) [] tokens.now) }
     ensures shorter { IfOk result (λ x. length x.rest.now ≤ length tokens.now) }
 {
     let mut list = Vec::new(alloc);
@@ -74,7 +75,7 @@ fn statements<'a>(
 }
 
 /// Reads `return E; }`.
-#[tactic(auto, unfolding(crate::specs::Reading::returned_at))]
+#[tactic(auto, unfolding(crate::specs::way::Reading::returned_at))]
 fn returned<'a>(alloc: Global, tokens: &'a [Token], limit: u32) -> Result<Option<Found<'a>>, Memory>
     requires { limit < 2 ^ 32 - 1 }
     ensures value { IfOk result (λ o. seen o ≡ returned_at limit tokens.now) }
@@ -92,7 +93,7 @@ fn returned<'a>(alloc: Global, tokens: &'a [Token], limit: u32) -> Result<Option
     Ok(Some(Found { rest, ..value }))
 }
 
-#[tactic(auto, unfolding(crate::specs::Reading::statement_at))]
+#[tactic(auto, unfolding(crate::specs::way::Reading::statement_at))]
 fn statement<'a>(
     alloc: Global,
     tokens: &'a [Token],
@@ -134,7 +135,7 @@ fn statement<'a>(
 }
 
 /// Reads the value of `int name =` and the semicolon.
-#[tactic(auto, unfolding(crate::specs::Reading::declare_at))]
+#[tactic(auto, unfolding(crate::specs::way::Reading::declare_at))]
 fn declare<'a>(
     alloc: Global,
     name: NameId,
@@ -158,7 +159,7 @@ fn declare<'a>(
 }
 
 /// Reads the value of `name =` and the semicolon.
-#[tactic(auto, unfolding(crate::specs::Reading::assign_at))]
+#[tactic(auto, unfolding(crate::specs::way::Reading::assign_at))]
 fn assign<'a>(
     alloc: Global,
     name: NameId,
@@ -182,7 +183,7 @@ fn assign<'a>(
 }
 
 /// Reads a call and the semicolon behind it.
-#[tactic(auto, unfolding(crate::specs::Reading::perform_at))]
+#[tactic(auto, unfolding(crate::specs::way::Reading::perform_at))]
 fn perform<'a>(
     alloc: Global,
     tokens: &'a [Token],
@@ -209,7 +210,7 @@ fn perform<'a>(
 }
 
 /// Reads an expression of at most this height and the semicolon behind it.
-#[tactic(auto, unfolding(crate::specs::Reading::ended_at))]
+#[tactic(auto, unfolding(crate::specs::way::Reading::ended_at))]
 fn ended<'a>(alloc: Global, tokens: &'a [Token], limit: u32) -> Result<Option<Found<'a>>, Memory>
     ensures value { IfOk result (λ o. seen o ≡ ended_at limit tokens.now) }
     ensures shorter { IfOk result (λ o. IfSome o (λ x. length x.rest.now < length tokens.now)) }

@@ -12,7 +12,7 @@ use Rattle.one_tokens.specs.declared.token.Token.{Token}
 use Rattle.one_tokens.specs.declared.token.Token.TheVariants.{Identifier, Decimal}
 use Rattle.one_tokens.specs.Characters.{is_white, is_digit, is_start, is_part, begins}
 use Rattle.one_tokens.specs.Lexing.{keyword_of, sign_of, joins, is_decimal, decimal_value, number_in, is_point, greatest, IsWord, IsDecimal, Lexes, at_end, at_control_z, past_white, keyword, identifier, decimal, sign}
-use Rattle.one_tokens.specs.Cutting.{white, piece, cut, cut_word, cut_keyword, cut_reserved, cut_decimal, cut_sign, is_last_control_z, behind_run, onto, lexed_cut, lexed_at}
+use Rattle.one_tokens.specs.way.Cutting.{white, piece, cut, cut_word, cut_keyword, cut_reserved, cut_decimal, cut_sign, is_last_control_z, behind_run, onto, lexed_cut, lexed_at}
 use Rattle.one_tokens.proofs.Texts.{and-left, and-right}
 use Rattle.one_tokens.proofs.Runs.{run-is, behind-is}
 

@@ -10,7 +10,7 @@ use Rattle.one_tokens.specs.declared.token.Token.{Token}
 use Rattle.one_tokens.specs.declared.token.Token.TheVariants.{Identifier, Decimal}
 use Rattle.one_tokens.specs.Characters.{is_white, is_digit, is_start, is_part, begins}
 use Rattle.one_tokens.specs.Lexing.{keyword_of, sign_of, joins, is_decimal, decimal_value, number_in, is_point, greatest, IsWord, IsDecimal}
-use Rattle.one_tokens.specs.Cutting.{Cut, finished, white, piece, fault, cut, cut_word, cut_keyword, cut_reserved, cut_decimal, cut_sign, cut_found, is_last_control_z, run_of, behind_run}
+use Rattle.one_tokens.specs.way.Cutting.{Cut, finished, white, piece, fault, cut, cut_word, cut_keyword, cut_reserved, cut_decimal, cut_sign, cut_found, is_last_control_z, run_of, behind_run}
 use Rattle.one_tokens.proofs.Texts.{and-left, and-right}
 use Rattle.one_tokens.proofs.Runs.{word-run, run-parts, run-stops}
 

@@ -2,7 +2,7 @@
 use Rattle.std.proofs.Common.{ℕ, zero, suc, List, [], ◌∷◌, Some, None, sym, subst}
 use Rattle.one_tokens.specs.declared.token.Token.{Token}
 use Rattle.one_tokens.specs.Lexing.{Lexes, at_end, at_control_z, past_white, keyword, identifier, decimal, sign}
-use Rattle.one_tokens.specs.Cutting.{Cut, cut, Lexed, onto, lexed_cut, lexed_at}
+use Rattle.one_tokens.specs.way.Cutting.{Cut, cut, Lexed, onto, lexed_cut, lexed_at}
 use Rattle.one_tokens.proofs.Cuts.{CutMeans, is_end, is_control_z, is_space, is_keyword, is_identifier, is_number, is_sign, is_fault, cut-means}
 
 -- what was lexed is what the text has

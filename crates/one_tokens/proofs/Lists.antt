@@ -3,7 +3,7 @@ use Rattle.std.proofs.Common.{◌≡◌, ℕ, suc, ◌<◌, List, [], ◌∷◌,
 use Rattle.std.proofs.lemmas.List.{append-nil}
 use Rattle.one_tokens.specs.declared.token.Token.{Token}
 use Rattle.one_tokens.specs.Lexing.{Lexes}
-use Rattle.one_tokens.specs.Cutting.{Cut, finished, white, piece, fault, cut, Lexed, onto, lexed_cut, lexed_at, behind}
+use Rattle.one_tokens.specs.way.Cutting.{Cut, finished, white, piece, fault, cut, Lexed, onto, lexed_cut, lexed_at, behind}
 use Rattle.one_tokens.proofs.Lexings.{Means, lexed-sound}
 use Rattle.one_tokens.proofs.Complete.{lexed-complete}
 

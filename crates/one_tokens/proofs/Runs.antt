@@ -4,7 +4,7 @@ use Rattle.std.specs.Prelude.{cond}
 use Rattle.std.specs.List.{list_all, prefix_len}
 use Rattle.one_tokens.specs.Characters.{is_start, is_part, begins}
 use Rattle.one_tokens.specs.Lexing.{IsWord}
-use Rattle.one_tokens.specs.Cutting.{run_of, behind_run}
+use Rattle.one_tokens.specs.way.Cutting.{run_of, behind_run}
 use Rattle.one_tokens.proofs.Texts.{and-left, and-right, run-passes}
 
 one-more : (n : ℕ) → 1 + n ≡ suc n

@@ -5,8 +5,8 @@ use Rattle.std.specs.List.{list_all, prefix_len}
 use Rattle.std.proofs.lemmas.Bool.Decides.{nat_tests}
 use Rattle.one_tokens.specs.Characters.{is_part, is_digit}
 use Rattle.one_tokens.specs.Lexing.{value_after, greatest}
-use Rattle.one_tokens.specs.Numbers.{small}
-use Rattle.one_tokens.specs.Seen.{Fits}
+use Rattle.one_tokens.specs.way.Numbers.{small}
+use Rattle.one_tokens.specs.way.Seen.{Fits}
 use Rattle.one_tokens.specs.declared.cut.Piece.{Piece}
 use Rattle.one_tokens.specs.declared.cut.Piece.TheVariants.{End, White, Word, Fault}
 

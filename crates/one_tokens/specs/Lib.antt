@@ -1,5 +1,3 @@
 pub mod Characters
 pub mod Lexing
-pub mod Numbers
-pub mod Cutting
-pub mod Seen
+pub mod way

@@ -3,7 +3,7 @@
 ghost use Rattle.std.specs.Prelude.{◌≡◌, ◌+◌, ◌<◌, ◌≤◌, length, true};
 ghost use Rattle.std.specs.List.{prefix_len, list_all};
 ghost use Rattle.one_tokens.specs.Characters.{is_white, is_digit, is_start, is_part, begins};
-ghost use Rattle.one_tokens.specs.Cutting.{run_of, behind_run};
+ghost use Rattle.one_tokens.specs.way.Cutting.{run_of, behind_run};
 
 /// A space, a tab, a form feed, CR or LF.
 pub fn is_white(byte: u8) -> bool

@@ -3,8 +3,8 @@
 ghost use Rattle.std.specs.Prelude.{◌≡◌, ◌<◌, ◌^◌, ◌+◌, length, true, IfOk, ℕ, List};
 ghost use Rattle.std.specs.List.{list_all};
 ghost use Rattle.one_tokens.specs.Characters.{is_part};
-ghost use Rattle.one_tokens.specs.Cutting.{cut, cut_word, cut_decimal, cut_sign};
-ghost use Rattle.one_tokens.specs.Seen.{seen, Fits};
+ghost use Rattle.one_tokens.specs.way.Cutting.{cut, cut_word, cut_decimal, cut_sign};
+ghost use Rattle.one_tokens.specs.way.Seen.{seen, Fits};
 
 use crate::characters::{is_digit, is_start, is_white, split_run};
 use crate::numbers::{is_decimal, small_value};
@@ -22,11 +22,12 @@ pub enum Piece<'a> {
 }
 
 /// Cuts the piece at the front off. An identifier gets its number.
-#[tactic(auto, unfolding(crate::specs::Cutting::cut))]
+#[tactic(auto, unfolding(crate::specs::way::Cutting::cut))]
 pub fn cut<'a>(text: &'a [u8], names: &mut Names) -> Result<Piece<'a>, Memory>
     requires { length names.old < 2 ^ 31 }
     ensures piece { IfOk result (λ p. seen p names.new ≡ cut names.old text.now) }
-    ensures fits { IfOk result (λ p. Fits p (length names.new) (length names.old + length text.now)) }
+    ensures fits { IfOk result (λ p. Fits p (length names.new)
+        (length names.old + length text.now)) }
 {
     let Some((first, behind)) = text.split_first() else {
         return Ok(Piece::End);
@@ -49,12 +50,13 @@ pub fn cut<'a>(text: &'a [u8], names: &mut Names) -> Result<Piece<'a>, Memory>
 }
 
 /// A run that begins as an identifier.
-#[tactic(auto, unfolding(crate::specs::Cutting::cut_word))]
+#[tactic(auto, unfolding(crate::specs::way::Cutting::cut_word))]
 fn cut_word<'a>(word: &[u8], behind: &'a [u8], names: &mut Names) -> Result<Piece<'a>, Memory>
     requires room { length names.old < 2 ^ 31 }
     requires parts { list_all is_part word.now ≡ true }
     ensures piece { IfOk result (λ p. seen p names.new ≡ cut_word names.old word.now behind.now) }
-    ensures fits { IfOk result (λ p. Fits p (length names.new) (length names.old + 1 + length behind.now)) }
+    ensures fits { IfOk result (λ p. Fits p (length names.new)
+        (length names.old + 1 + length behind.now)) }
 {
     if let Some(token) = keyword_of(word) {
         return Ok(Piece::Word(token, behind));
@@ -68,9 +70,10 @@ fn cut_word<'a>(word: &[u8], behind: &'a [u8], names: &mut Names) -> Result<Piec
 }
 
 /// A run that begins with a digit.
-#[tactic(auto, unfolding(crate::specs::Cutting::cut_decimal))]
+#[tactic(auto, unfolding(crate::specs::way::Cutting::cut_decimal))]
 fn cut_decimal<'a>(digits: &[u8], behind: &'a [u8]) -> Piece<'a>
-    ensures piece { (names : List (List ℕ)) → seen result names ≡ cut_decimal names digits.now behind.now }
+    ensures piece { (names : List (List ℕ)) → seen result names
+        ≡ cut_decimal names digits.now behind.now }
     ensures fits { (names : ℕ) → Fits result names (names + length behind.now) }
 {
     if !is_decimal(digits) || is_point_first(behind) {
@@ -83,7 +86,7 @@ fn cut_decimal<'a>(digits: &[u8], behind: &'a [u8]) -> Piece<'a>
 }
 
 /// A character that is a token, or none.
-#[tactic(auto, unfolding(crate::specs::Cutting::cut_sign))]
+#[tactic(auto, unfolding(crate::specs::way::Cutting::cut_sign))]
 fn cut_sign<'a>(first: u8, behind: &'a [u8]) -> Piece<'a>
     ensures piece { (names : List (List ℕ)) → seen result names ≡ cut_sign names first behind.now }
     ensures fits { (names : ℕ) → Fits result names (names + length behind.now) }

@@ -14,7 +14,8 @@ use std::alloc::Global;
 pub fn tokens(alloc: Global, text: &[u8], names: &mut Names) -> Result<Option<Vec<Token>>, Memory>
     requires { length names.old + length text.now < 2 ^ 31 }
     ensures some { IfOk result (λ o. IfSome o (λ v. Lexes names.old text.now v.items names.new)) }
-    ensures none { IfOk result (λ o. IfNone o ((ts : List OneToken) (after : List (List ℕ)) → ¬ Lexes names.old text.now ts after)) }
+    ensures none { IfOk result (λ o. IfNone o ((ts : List OneToken) (after : List (List ℕ))
+        → ¬ Lexes names.old text.now ts after)) }
 {
     let mut tokens = Vec::new(alloc);
     let mut rest = text;
@@ -33,7 +34,8 @@ pub fn tokens(alloc: Global, text: &[u8], names: &mut Names) -> Result<Option<Ve
 }
 
 /// From the same names, a text has one list of tokens, and comes to one list of names.
-pub fn one_list()
-    ensures { (names : List (List ℕ)) (text : List ℕ) (ts ts' : List OneToken) (after after' : List (List ℕ)) →
+pub fn tokens_unique()
+    ensures { (names : List (List ℕ)) (text : List ℕ) (ts ts' : List OneToken)
+        (after after' : List (List ℕ)) →
         Lexes names text ts after → Lexes names text ts' after' → (ts ≡ ts') × (after ≡ after') }
 {}

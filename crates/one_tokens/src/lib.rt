@@ -15,5 +15,5 @@ mod tests;
 mod token;
 mod words;
 
-pub use lex::{one_list, tokens};
+pub use lex::{tokens, tokens_unique};
 pub use token::Token;

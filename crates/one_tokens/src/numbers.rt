@@ -4,7 +4,7 @@ ghost use Rattle.std.specs.Prelude.{◌≡◌, nat_le, Some, None, if◌then◌e
 ghost use Rattle.std.specs.List.{list_all};
 ghost use Rattle.one_tokens.specs.Characters.{is_digit};
 ghost use Rattle.one_tokens.specs.Lexing.{is_decimal, decimal_value, greatest};
-ghost use Rattle.one_tokens.specs.Numbers.{small};
+ghost use Rattle.one_tokens.specs.way.Numbers.{small};
 
 use crate::characters::is_digit;
 

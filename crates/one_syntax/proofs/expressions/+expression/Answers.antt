@@ -2,7 +2,7 @@ use Rattle.std.proofs.Common.{◌≡◌, ◌-◌, List, ◌<◌, Some, ◌∙◌
 use Rattle.std.proofs.lemmas.Grind.{common_steps}
 use Rattle.one_tokens.specs.declared.token.Token.{Token}
 use Rattle.one_syntax.specs.Trees.{view_expr}
-use Rattle.one_syntax.specs.Reading.{additive_at, expr_at}
+use Rattle.one_syntax.specs.way.Reading.{additive_at, expr_at}
 use Rattle.one_syntax.proofs.Shorter.{expr_less}
 use Rattle.one_syntax.proofs.Loops.{factors_go, terms_go, additive_less, more_args_go, args_height-push}
 use Rattle.one_syntax.proofs.expressions.+expression.Goals as goal

@@ -1,7 +1,7 @@
 use Rattle.std.proofs.Common.{◌≡◌, ◌+◌, ◌*◌, ◌<◌, ◌≤◌, length}
 use Rattle.one_syntax.specs.Trees.{view_expr, view_exprs}
 use Rattle.one_syntax.specs.Height.{expr_height, args_height}
-use Rattle.one_syntax.specs.Reading.{args_at, more_args_at, factors_at, product_at, terms_at, sum_at, expr_at}
+use Rattle.one_syntax.specs.way.Reading.{args_at, more_args_at, factors_at, product_at, terms_at, sum_at, expr_at}
 use Rattle.one_syntax.proofs.expressions.+expression.Given as goal
 
 abbrev pub decreases-expr : goal.decreases-expr

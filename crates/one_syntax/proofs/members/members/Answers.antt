@@ -1,6 +1,6 @@
 use Rattle.std.proofs.Common.{◌≡◌, None, ◌∙◌, arith, length, sym}
 use Rattle.std.proofs.lemmas.Grind.{common_steps}
-use Rattle.one_syntax.specs.Reading.{member_at}
+use Rattle.one_syntax.specs.way.Reading.{member_at}
 use Rattle.one_syntax.proofs.Turns.{members_turn, members_stop}
 use Rattle.one_syntax.proofs.members.members.Goals as goal
 

@@ -1,6 +1,6 @@
 use Rattle.std.proofs.Common.{◌≡◌, [], map, length}
 use Rattle.one_syntax.specs.Trees.{view_member}
-use Rattle.one_syntax.specs.Reading.{members_at}
+use Rattle.one_syntax.specs.way.Reading.{members_at}
 use Rattle.one_syntax.proofs.members.members.Given as goal
 
 abbrev pub invariant-loop-list : goal.invariant-loop-list

@@ -1,5 +1,5 @@
 use Rattle.std.proofs.Common.{◌≡◌, ◌<◌, length}
-use Rattle.one_syntax.specs.Reading.{params_at, more_params_at}
+use Rattle.one_syntax.specs.way.Reading.{params_at, more_params_at}
 use Rattle.one_syntax.proofs.members.params.Given as goal
 
 abbrev pub invariant-loop-rest : goal.invariant-loop-rest

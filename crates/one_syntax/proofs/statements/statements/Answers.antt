@@ -1,6 +1,6 @@
 use Rattle.std.proofs.Common.{◌≡◌, None, ◌∙◌, arith, length, sym}
 use Rattle.std.proofs.lemmas.Grind.{common_steps}
-use Rattle.one_syntax.specs.Reading.{statement_at}
+use Rattle.one_syntax.specs.way.Reading.{statement_at}
 use Rattle.one_syntax.proofs.Turns.{statements_turn, statements_stop}
 use Rattle.one_syntax.proofs.statements.statements.Goals as goal
 

@@ -1,6 +1,6 @@
 use Rattle.std.proofs.Common.{◌≡◌, ◌≤◌, [], map, length}
 use Rattle.one_syntax.specs.Trees.{view_statement}
-use Rattle.one_syntax.specs.Reading.{statements_at}
+use Rattle.one_syntax.specs.way.Reading.{statements_at}
 use Rattle.one_syntax.proofs.statements.statements.Given as goal
 
 abbrev pub invariant-loop-list : goal.invariant-loop-list

@@ -1,7 +1,7 @@
 -- Each turn puts what is cut off behind the tokens so far.
 use Rattle.std.proofs.Common.{◌≡◌, ◌+◌, ◌-◌, length, sym, ap, ◌∙◌, subst, arith, None}
-use Rattle.one_tokens.specs.Cutting.{lexed_at, behind}
-use Rattle.one_tokens.specs.Seen.{seen, Fits}
+use Rattle.one_tokens.specs.way.Cutting.{lexed_at, behind}
+use Rattle.one_tokens.specs.way.Seen.{seen, Fits}
 use Rattle.one_tokens.proofs.Lists.{turn-end, turn-white, turn-word, turn-fault, lexed-none, lexed-zero}
 use Rattle.one_tokens.proofs.lex.tokens.Goals as goal
 use Rattle.one_tokens.proofs.lex.tokens.Goals.{in-White, in-Word+in_ok-push-in-Word}

@@ -1,5 +1,5 @@
 use Rattle.std.proofs.Common.{◌≡◌, ◌≤◌, ◌+◌, ◌-◌, length}
-use Rattle.one_tokens.specs.Cutting.{lexed_at, behind}
+use Rattle.one_tokens.specs.way.Cutting.{lexed_at, behind}
 use Rattle.one_tokens.proofs.lex.tokens.Given as goal
 
 -- the tokens so far, and then those of the rest, are the tokens of the text

@@ -6,7 +6,7 @@ use Rattle.je_core.specs.View.{field_view}
 use Rattle.one_program.specs.Elaboration.{program_with}
 use Rattle.one_program.specs.way.Built.{method_views}
 use Rattle.one_program.proofs.Classes.{program-seen}
-use Rattle.one_program.proofs.class.one_class.Goals as goal
+use Rattle.one_program.proofs.class.make_class.Goals as goal
 
 pub returns-clause-is : goal.returns-clause-is
 returns-clause-is c =

@@ -16,7 +16,7 @@ use Rattle.one_syntax.specs.declared.members.FoundMembers.{FoundMembers}
 use Rattle.one_syntax.specs.declared.tree.One.{One}
 use Rattle.one_syntax.specs.Trees.{ExprTree, ExprTrees, StatementTree, MemberTree, OneTree, call, view_expr, view_exprs, view_statement, view_member, view_one}
 use Rattle.one_syntax.specs.Height.{expr_height, args_height}
-use Rattle.one_syntax.specs.Reading.{Read, Parts}
+use Rattle.one_syntax.specs.way.Reading.{Read, Parts}
 
 abbrev pub seen : Option Found → Read ExprTree
 seen None = None

@@ -2,7 +2,7 @@
 use Rattle.std.specs.Prelude.{ℕ, List, ◌≤◌, ◌+◌, length}
 use Rattle.one_tokens.specs.declared.cut.Piece.{Piece}
 use Rattle.one_tokens.specs.declared.cut.Piece.TheVariants.{End, White, Word, Fault}
-use Rattle.one_tokens.specs.Cutting.{Cut, finished, white, piece, fault}
+use Rattle.one_tokens.specs.way.Cutting.{Cut, finished, white, piece, fault}
 
 abbrev pub seen : Piece → List (List ℕ) → Cut
 seen End names = finished names

@@ -1,5 +1,5 @@
 use Rattle.one_run.proofs.OneAnswer.{one-answer}
-use Rattle.one_run.proofs.file.one_answer.Goals as goal
+use Rattle.one_run.proofs.file.answer_unique.Goals as goal
 
 pub returns : goal.returns
 returns c = one-answer
