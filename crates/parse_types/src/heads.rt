@@ -137,7 +137,8 @@ pub fn interface_head<'a>(
 #[tactic(auto, using(crate::proofs::Steps::parameters_step, crate::proofs::Steps::parameters_none, crate::proofs::Steps::parameters_push, crate::proofs::Steps::parameters_height_push), unfolding(parse_laws::specs::way::Types::parameters_at))]
 fn type_params<'a>(alloc: Global, tokens: &'a [Token], most: u32) -> ReadPart<'a, Vec<TypeParam>>
     ensures value { IfOk result (λ o. seen_part parameters_view o ≡ parameters_at most tokens.now) }
-    ensures height { IfOk result (λ o. PartHeight (λ ps. parameters_height (parameters_view ps)) most o) }
+    ensures height { IfOk result (λ o. PartHeight
+        (λ ps. parameters_height (parameters_view ps)) most o) }
 {
     let mut list = Vec::new(alloc);
     let Some(mut next) = behind(tokens, Symbol::Less) else {
@@ -200,8 +201,10 @@ fn type_param<'a>(
 // `["extends" Ref]`
 #[tactic(auto, unfolding(parse_laws::specs::way::Types::superclass_at))]
 fn superclass<'a>(alloc: Global, tokens: &'a [Token], most: u32) -> ReadPart<'a, Option<TyName>>
-    ensures value { IfOk result (λ o. seen_part type_view_of_option o ≡ superclass_at most tokens.now) }
-    ensures height { IfOk result (λ o. PartHeight (λ t. type_height_if (type_view_of_option t)) most o) }
+    ensures value { IfOk result (λ o. seen_part type_view_of_option o
+        ≡ superclass_at most tokens.now) }
+    ensures height { IfOk result (λ o. PartHeight
+        (λ t. type_height_if (type_view_of_option t)) most o) }
 {
     let Some(named) = behind_word(tokens, Keyword::Extends) else {
         return Ok(Some(Part {
@@ -228,8 +231,10 @@ fn references<'a>(
     tokens: &'a [Token],
     most: u32,
 ) -> ReadPart<'a, Vec<TyName>>
-    ensures value { IfOk result (λ o. seen_part (λ ts. type_views_of ts.items) o ≡ references_at word most tokens.now) }
-    ensures height { IfOk result (λ o. PartHeight (λ ts. types_height (type_views_of ts.items)) most o) }
+    ensures value { IfOk result (λ o. seen_part (λ ts. type_views_of ts.items) o
+        ≡ references_at word most tokens.now) }
+    ensures height { IfOk result (λ o. PartHeight
+        (λ ts. types_height (type_views_of ts.items)) most o) }
 {
     let mut list = Vec::new(alloc);
     let Some(mut next) = behind_word(tokens, word) else {

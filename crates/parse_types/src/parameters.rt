@@ -60,7 +60,8 @@ pub fn formals<'a>(alloc: Global, tokens: &'a [Token], most: u32) -> Read<'a, Ve
 #[tactic(auto, unfolding(parse_laws::specs::way::Types::formal_at))]
 fn formal<'a>(alloc: Global, tokens: &'a [Token], most: u32) -> Read<'a, Formal>
     ensures value { IfOk result (λ o. seen formal_view o ≡ formal_at most tokens.now) }
-    ensures height { IfOk result (λ o. HasHeight (λ f. type_height (formal_view f).declared) most o) }
+    ensures height { IfOk result (λ o. HasHeight
+        (λ f. type_height (formal_view f).declared) most o) }
 {
     let (is_final, typed) = final_word(tokens);
     let Some(ty) = type_name(alloc, typed, most)? else {

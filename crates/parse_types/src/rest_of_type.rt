@@ -27,11 +27,16 @@ impl<'a> Rest<'a> {
     pub fn whole(self) -> Option<&'a [Token]>
         ensures value { rest_of result ≡ whole_of self.entry }
         ensures no_identifier { IfNone result (identifier_at (seen_rest self.entry) ≡ None) }
-        ensures no_bracket { IfNone result (behind_at symbol.OpenBracket (seen_rest self.entry) ≡ None) }
-        ensures no_parenthesis { IfNone result (behind_at symbol.OpenParen (seen_rest self.entry) ≡ None) }
-        ensures no_brace { IfNone result (behind_at symbol.OpenBrace (seen_rest self.entry) ≡ None) }
-        ensures no_extends { IfNone result (behind_word_at word.Extends (seen_rest self.entry) ≡ None) }
-        ensures no_implements { IfNone result (behind_word_at word.Implements (seen_rest self.entry) ≡ None) }
+        ensures no_bracket { IfNone result (behind_at symbol.OpenBracket
+            (seen_rest self.entry) ≡ None) }
+        ensures no_parenthesis { IfNone result
+            (behind_at symbol.OpenParen (seen_rest self.entry) ≡ None) }
+        ensures no_brace { IfNone result (behind_at symbol.OpenBrace
+            (seen_rest self.entry) ≡ None) }
+        ensures no_extends { IfNone result (behind_word_at word.Extends
+            (seen_rest self.entry) ≡ None) }
+        ensures no_implements { IfNone result (behind_word_at word.Implements
+            (seen_rest self.entry) ≡ None) }
         ensures no_comma { IfNone result (behind_at symbol.Comma (seen_rest self.entry) ≡ None) }
     {
         match self {

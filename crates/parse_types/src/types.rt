@@ -165,7 +165,8 @@ fn class_reference<'a>(
     below: u32,
 ) -> Result<Option<ClassType<'a>>, Memory>
     requires { below < 2 ^ 32 - 1 }
-    ensures value { IfOk result (λ o. seen_reference o ≡ reference_layer (type_at below) tokens.now) }
+    ensures value { IfOk result (λ o. seen_reference o
+        ≡ reference_layer (type_at below) tokens.now) }
     ensures height { IfOk result (ReferenceHeight (below + 1)) }
 {
     let Some((name, rest)) = name(alloc, tokens)? else {
@@ -202,7 +203,8 @@ fn type_arguments<'a>(
     most: u32,
 ) -> Result<Option<Arguments<'a>>, Memory>
     requires { most < 2 ^ 32 - 1 }
-    ensures value { IfOk result (λ o. seen_arguments o ≡ type_arguments_at (type_at most) (length tokens.now) [] tokens.now) }
+    ensures value { IfOk result (λ o. seen_arguments o
+        ≡ type_arguments_at (type_at most) (length tokens.now) [] tokens.now) }
     ensures height { IfOk result (ArgumentsHeight most) }
 {
     let mut list = Vec::new(alloc);
