@@ -1,5 +1,5 @@
 -- A run that goes on as another has the other's end.
-use Rattle.std.proofs.Common.{◌≡◌, subst}
+use Rattle.std.proofs.Common.{subst}
 use Rattle.je_core.specs.Core.{CoreProgram}
 use Rattle.je_heap.specs.Contents.{Contents}
 use Rattle.je_interp.specs.declared.machine.Machine.{Machine}

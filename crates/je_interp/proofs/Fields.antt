@@ -1,6 +1,6 @@
 -- The slot of a field, from what stands in memory.
 use Rattle.std.proofs.Common.{◌≡◌, ◌<◌, ℕ, List, length, map, get_or, Some, None, sym, ap, ◌∙◌}
-use Rattle.std.specs.Prelude.{Bool, true, false, if◌then◌else◌, count_by, take, slice_get, option_map}
+use Rattle.std.specs.Prelude.{false, if◌then◌else◌, count_by, take, slice_get, option_map}
 use Rattle.std.proofs.lemmas.List.{take-map}
 use Rattle.std.proofs.lemmas.Option.{slice_get-map, slice_get-get_or}
 use Rattle.je_core.specs.declared.program.Field.{Field}

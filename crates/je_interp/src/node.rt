@@ -1,12 +1,8 @@
 // A node begins, if there is a unit for it.
 
-ghost use Rattle.std.specs.Prelude.{◌≡◌, ◌≤◌, ◌<◌, ◌+◌, IfOk, Some};
-ghost use Rattle.je_core.specs.View.{view, stmt_view, program_view};
-ghost use Rattle.je_java.specs.Meaning.{java};
-ghost use Rattle.je_java.specs.Steps.{Outside};
-ghost use Rattle.je_interp.specs.Ways.{Ways, waits, resume, valued, ended, state, height, gives};
-ghost use Rattle.je_interp.specs.Finish.{answer_at};
-ghost use Rattle.je_interp.specs.declared.machine.Next.TheVariants.{More};
+ghost use Rattle.std.specs.Prelude.{◌≤◌, ◌<◌, ◌+◌, IfOk};
+ghost use Rattle.je_core.specs.View.{view, stmt_view};
+ghost use Rattle.je_interp.specs.way.Clauses.{RunsToValue, RunsToEnd, Falls};
 
 use crate::expr::begin_expr;
 use crate::frame::{Context, Control};
@@ -22,8 +18,9 @@ pub fn eval(
     program: &Program,
     node: Rc<Expr>,
 ) -> Result<Control, Memory>
-    ensures goes { IfOk result (λ c. (k : Ways) (outside : Outside) → resume (program_view program.now) (java (program_view program.now)) k c context.new.frames (state context.new heap.new outside) ≡ valued ((java (program_view program.now)).eval (view node.value)) (waits (program_view program.now) (java (program_view program.now)) k context.old.frames) (state context.old heap.old outside)) }
-    ensures falls { IfOk result (λ c. answer_at c ≡ Some More → height context.new + gives c < height context.old) }
+    ensures goes { IfOk result (RunsToValue program.now context.old heap.old context.new heap.new
+        (λ m. m.eval (view node.value))) }
+    ensures falls { IfOk result (Falls context.old context.new) }
     ensures begun { context.new.begun ≤ context.old.begun + 1 }
 {
     if context.units == 0 {
@@ -41,8 +38,9 @@ pub fn exec(
     heap: &Heap,
     node: Rc<Stmt>,
 ) -> Result<Control, Memory>
-    ensures goes { IfOk result (λ c. (k : Ways) (outside : Outside) → resume (program_view program.now) (java (program_view program.now)) k c context.new.frames (state context.new heap.now outside) ≡ ended ((java (program_view program.now)).exec (stmt_view node.value)) (waits (program_view program.now) (java (program_view program.now)) k context.old.frames) (state context.old heap.now outside)) }
-    ensures falls { IfOk result (λ c. answer_at c ≡ Some More → height context.new + gives c < height context.old) }
+    ensures goes { IfOk result (RunsToEnd program.now context.old heap.now context.new heap.now
+        (λ m. m.exec (stmt_view node.value))) }
+    ensures falls { IfOk result (Falls context.old context.new) }
     ensures begun { context.new.begun ≤ context.old.begun + 1 }
 {
     if context.units == 0 {

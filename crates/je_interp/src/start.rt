@@ -1,12 +1,9 @@
 // A call from outside begins with its body: no move of its own comes before.
 
-ghost use Rattle.std.specs.Prelude.{◌≡◌, ◌≤◌, ◌<◌, ◌+◌, IfOk, Some};
-ghost use Rattle.je_core.specs.View.{stmt_view, method_view, program_view};
-ghost use Rattle.je_java.specs.Meaning.{java, replied as the_replied, replied_virtual, replied_fresh, built, call_by};
-ghost use Rattle.je_java.specs.Steps.{Outside};
-ghost use Rattle.je_interp.specs.Ways.{Ways, resume, ended, state_of, height, gives};
-ghost use Rattle.je_interp.specs.Finish.{GoesToReply, answer_at};
-ghost use Rattle.je_interp.specs.declared.machine.Next.TheVariants.{More};
+ghost use Rattle.std.specs.Prelude.{◌≤◌, ◌<◌, ◌+◌, IfOk, Some};
+ghost use Rattle.je_core.specs.View.{method_view};
+ghost use Rattle.je_java.specs.Meaning.{replied as the_replied, replied_virtual, replied_fresh, built, call_by};
+ghost use Rattle.je_interp.specs.way.Clauses.{GoesToReply, BeginsBody, Falls};
 
 use crate::call::body;
 use crate::class::{class_of, dispatched, locals_for, method};
@@ -29,10 +26,9 @@ fn begin_body(
     this: Value,
     locals: Slots,
 ) -> Result<Control, Memory>
-    ensures goes { IfOk result (λ c. (k : Ways) (outside : Outside) →
-        resume (program_view program.now) (java (program_view program.now)) k c context.new.frames (state_of context.new.units context.new.begun heap.now outside (record { this = context.new.env.this; locals = context.new.env.locals })) ≡
-        ended ((java (program_view program.now)).exec (stmt_view body.value)) k (state_of context.old.units context.old.begun heap.now outside (record { this = this; locals = locals }))) }
-    ensures falls { IfOk result (λ c. answer_at c ≡ Some More → height context.new + gives c < height context.old) }
+    ensures goes { IfOk result (BeginsBody program.now context.old heap.now context.new body.value
+        (record { this = this; locals = locals })) }
+    ensures falls { IfOk result (Falls context.old context.new) }
     ensures begun { context.new.begun ≤ context.old.begun + 1 }
 {
     context.frames = Stack::new(context.alloc);
@@ -50,8 +46,10 @@ fn start_method(
     this: Value,
     args: Slots,
 ) -> Result<Control, Memory>
-    ensures goes { IfOk result (λ c. GoesToReply program.now context.old heap.now reply.new context.new heap.now c (λ p m. the_replied p m target this args)) }
-    ensures falls { IfOk result (λ c. answer_at c ≡ Some More → height context.new + gives c < height context.old) }
+    ensures goes { IfOk result (GoesToReply program.now
+        context.old heap.now reply.new context.new heap.now
+        (λ p m. the_replied p m target this args)) }
+    ensures falls { IfOk result (Falls context.old context.new) }
     ensures begun { context.new.begun ≤ context.old.begun + 1 }
 {
     let Some(method) = method(program, target.class, target.method) else {
@@ -76,8 +74,10 @@ fn start_virtual(
     object: ObjId,
     args: Slots,
 ) -> Result<Control, Memory>
-    ensures goes { IfOk result (λ c. GoesToReply program.now context.old heap.now reply.new context.new heap.now c (λ p m. replied_virtual p m class at object args)) }
-    ensures falls { IfOk result (λ c. answer_at c ≡ Some More → height context.new + gives c < height context.old) }
+    ensures goes { IfOk result (GoesToReply program.now
+        context.old heap.now reply.new context.new heap.now
+        (λ p m. replied_virtual p m class at object args)) }
+    ensures falls { IfOk result (Falls context.old context.new) }
     ensures begun { context.new.begun ≤ context.old.begun + 1 }
 {
     let Some(own) = class_of(heap, object) else {
@@ -107,8 +107,10 @@ fn start_constructor(
     object: ObjId,
     args: Slots,
 ) -> Result<Control, Memory>
-    ensures goes { IfOk result (λ c. GoesToReply program.now context.old heap.now reply.new context.new heap.now c (λ p m. built p m (method_view constructor.now) object args)) }
-    ensures falls { IfOk result (λ c. answer_at c ≡ Some More → height context.new + gives c < height context.old) }
+    ensures goes { IfOk result (GoesToReply program.now
+        context.old heap.now reply.new context.new heap.now
+        (λ p m. built p m (method_view constructor.now) object args)) }
+    ensures falls { IfOk result (Falls context.old context.new) }
     ensures begun { context.new.begun ≤ context.old.begun + 1 }
 {
     let Some(body) = body(constructor)? else {
@@ -129,8 +131,10 @@ fn start_fresh(
     at: u32,
     args: Slots,
 ) -> Result<Control, Memory>
-    ensures goes { IfOk result (λ c. GoesToReply program.now context.old heap.old reply.new context.new heap.new c (λ p m. replied_fresh p m class at args)) }
-    ensures falls { IfOk result (λ c. answer_at c ≡ Some More → height context.new + gives c < height context.old) }
+    ensures goes { IfOk result (GoesToReply program.now
+        context.old heap.old reply.new context.new heap.new
+        (λ p m. replied_fresh p m class at args)) }
+    ensures falls { IfOk result (Falls context.old context.new) }
     ensures begun { context.new.begun ≤ context.old.begun + 1 }
 {
     let object = match instance(context, heap, program, class)? {
@@ -163,8 +167,10 @@ pub fn start(
     reply: &mut Reply,
     call: Call,
 ) -> Result<Control, Memory>
-    ensures goes { IfOk result (λ c. GoesToReply program.now context.old heap.old reply.new context.new heap.new c (λ p m. call_by p m call.receiver call.class call.method call.args)) }
-    ensures falls { IfOk result (λ c. answer_at c ≡ Some More → height context.new + gives c < height context.old) }
+    ensures goes { IfOk result (GoesToReply program.now
+        context.old heap.old reply.new context.new heap.new
+        (λ p m. call_by p m call.receiver call.class call.method call.args)) }
+    ensures falls { IfOk result (Falls context.old context.new) }
     ensures begun { context.new.begun ≤ context.old.begun + 1 }
 {
     let Call {

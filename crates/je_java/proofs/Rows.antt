@@ -21,7 +21,7 @@ use Rattle.je_java.specs.Raised.{library_class, null_pointer, arithmetic}
 use Rattle.je_java.specs.World.{World}
 use Rattle.je_java.specs.Steps.{State, Outside, Answer, Done, Thrown, Spent, Wrong}
 use Rattle.je_java.specs.Meaning.{java, meanings, call}
-use Rattle.je_java.specs.Opened.{opened}
+use Rattle.je_java.specs.way.Opened.{opened}
 
 abbrev pub nowhere : Span
 nowhere = record { file = 0; start = 0; end = 0 }

@@ -23,7 +23,7 @@ use Rattle.je_java.specs.Raised.{library_class, null_pointer}
 use Rattle.je_java.specs.World.{World}
 use Rattle.je_java.specs.Steps.{Done, Wrong}
 use Rattle.je_java.specs.Meaning.{java, meanings, call}
-use Rattle.je_java.specs.Opened.{opened}
+use Rattle.je_java.specs.way.Opened.{opened}
 use Rattle.one_syntax.specs.Trees.{ExprTree, StatementTree, OneTree}
 use Rattle.one_syntax.specs.Trees as tree
 use Rattle.one_program.specs.Scope.{Scope, local_of, members_of, scope_of}
