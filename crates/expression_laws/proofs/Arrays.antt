@@ -15,7 +15,8 @@ use Rattle.parse_laws.specs.way.Below.{Below}
 use Rattle.parse_laws.specs.way.Lists.{expressions}
 use Rattle.parse_laws.specs.way.Readers.{IsRead, IsBelow, any}
 use Rattle.parse_laws.specs.way.Expressions.{Closed, behind_lone_comma, values_at, array_initializer_layer}
-use Rattle.expression_laws.proofs.Rules.{bind, either, choose, weaken, Front, front, behind_front, behind_of}
+use Rattle.parse_laws.proofs.Rules.{bind, either, choose, weaken}
+use Rattle.parse_laws.proofs.Fronts.{Front, front, behind_front, behind_of}
 use Rattle.expression_laws.proofs.Begins.{close_brace_begins_none}
 use Rattle.expression_laws.proofs.Primaries.{front_of}
 

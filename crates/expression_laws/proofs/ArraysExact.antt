@@ -18,7 +18,7 @@ use Rattle.parse_laws.specs.way.Readers.{IsBelow, itself, longer, reach}
 use Rattle.parse_laws.specs.way.Expressions.{Closed, behind_lone_comma, values_at, array_initializer_layer}
 use Rattle.je_grammar.proofs.AtLeastOne.{expressions_spell_some}
 use Rattle.je_grammar.proofs.Sizes.{size-SpellsInits}
-use Rattle.expression_laws.proofs.Rules.{Front, front}
+use Rattle.parse_laws.proofs.Fronts.{Front, front}
 use Rattle.expression_laws.proofs.Begins.{expression_begins}
 use Rattle.expression_laws.proofs.Inner.{not_front, items_of, same_items}
 use Rattle.expression_laws.proofs.Arrays.{close_brace_begins_no_value}

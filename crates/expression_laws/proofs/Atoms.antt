@@ -23,12 +23,13 @@ use Rattle.parse_laws.specs.way.Types.{part_at, name_at, past_name_at, primitive
 use Rattle.parse_laws.specs.way.Below.{Below}
 use Rattle.parse_laws.specs.way.Readers.{IsBelow}
 use Rattle.parse_laws.specs.way.Expressions.{Closed, is_outer_this_at, outer_this_at, makes_array_at, arguments_at, object_at, creation_at, named_at, super_member_at, parens_at, primary_at}
-use Rattle.expression_laws.specs.way.Parts.{is_reference, ReadTypes, IsBodyRead, ReadBodies}
+use Rattle.expression_laws.specs.way.Parts.{ReadTypes, IsBodyRead, ReadBodies}
+use Rattle.parse_laws.specs.way.Readers.{is_reference}
 use Rattle.std.specs.Prelude.{option_map}
 use Rattle.je_grammar.specs.Types.{ref_with_arguments}
 use Rattle.je_grammar.specs.Grammar.{is_body}
 use Rattle.je_grammar.proofs.Sizes.{size-SpellsList, size-SpellsMembers}
-use Rattle.expression_laws.proofs.Rules.{Front, front, behind_front, behind_of, FrontName, front_name}
+use Rattle.parse_laws.proofs.Fronts.{Front, front, behind_front, behind_of, FrontName, front_name}
 use Rattle.expression_laws.proofs.Casts.{name_before, past_name_before}
 use Rattle.expression_laws.proofs.Primaries.{GoodArguments, arguments_sound, front_of}
 use Rattle.expression_laws.proofs.Inner.{whole, arguments_exact}

@@ -19,7 +19,7 @@ use Rattle.je_grammar.specs.Context.{is_not_or_tilde, begins_operand, is_not_plu
 use Rattle.je_grammar.specs.Grammar.{IsLiteral, int_literal, long_literal, char_literal, text_literal, true_literal, false_literal, null_literal, Spells, is_literal, is_simple_name, is_this, is_outer_this, is_parens, is_select, is_super_select, is_call, is_call_on, is_super_call, is_index, is_new, is_new_anonymous, is_new_array, is_new_array_of, is_primitive_cast, is_class_cast, is_prefix, is_postfix, is_binary, is_instance_of, is_conditional, is_assign}
 use Rattle.parse_laws.specs.way.Tokens.{is_some}
 use Rattle.parse_laws.specs.way.Expressions.{prefix_operator}
-use Rattle.expression_laws.proofs.Rules.{Front, front}
+use Rattle.parse_laws.proofs.Fronts.{Front, front}
 
 -- whether an expression may begin here
 abbrev pub may_begin : List Token → Bool

@@ -15,7 +15,7 @@ use Rattle.parse_laws.specs.way.Tokens.{is_some}
 use Rattle.parse_laws.specs.way.Types.{part_at, pair_at, name_at, past_name_at, primitive_at, dims_at, past_dims_at, is_cast_at}
 use Rattle.parse_laws.specs.way.Readers.{itself, longer}
 use Rattle.expression_laws.specs.way.Parts.{ReadTypes}
-use Rattle.expression_laws.proofs.Rules.{Front, front, behind_of}
+use Rattle.parse_laws.proofs.Fronts.{Front, front, behind_of}
 
 -- ---- names in brackets
 

@@ -22,7 +22,7 @@ use Rattle.parse_laws.specs.way.Below.{Below}
 use Rattle.parse_laws.specs.way.Readers.{IsBelow, Reads, itself, longer, reach}
 use Rattle.parse_laws.specs.way.Expressions.{Closed, postfix_at, may_be_cast, cast_at, prefix_at, unary_at, binary_step, operation_step, operations_at, choices_at, conditional_at, assignment_at, expression_layer}
 use Rattle.expression_laws.specs.way.Parts.{ReadTypes, ReadBodies}
-use Rattle.expression_laws.proofs.Rules.{front}
+use Rattle.parse_laws.proofs.Fronts.{front}
 use Rattle.expression_laws.proofs.Fronts.{a_primitive, a_class}
 use Rattle.expression_laws.proofs.Begins.{operators_from, operators_to, lowest}
 use Rattle.expression_laws.proofs.Moves.{Moves, still, moved, no_longer, operations_move, conditional_move, assignment_move, operator_goes_on, assignment_goes_on}

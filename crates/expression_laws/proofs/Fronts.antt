@@ -25,7 +25,8 @@ use Rattle.parse_laws.specs.way.Tokens.{◌>>=◌, behind}
 use Rattle.parse_laws.specs.way.Types.{name_at, primitive_at, primitive_kind, primitive_type_at, with_dims, element_at, plain_type_at}
 use Rattle.parse_laws.specs.way.Expressions.{literal_kind, literal_at, prefix_kind, prefix_operator, postfix_operator, binary_kind, binary_operator, assignment_kind, assignment_operator}
 use Rattle.expression_laws.specs.way.Parts.{ReadTypes}
-use Rattle.expression_laws.proofs.Rules.{bind, either, is_of, Front, front, behind_front}
+use Rattle.parse_laws.proofs.Rules.{bind, either}
+use Rattle.parse_laws.proofs.Fronts.{is_of, Front, front, behind_front}
 
 -- ---- kinds of tokens
 

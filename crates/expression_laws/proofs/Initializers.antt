@@ -16,7 +16,7 @@ use Rattle.parse_laws.specs.way.Expressions.{Closed, expression_layer, array_ini
 use Rattle.expression_laws.specs.way.Parts.{ReadTypes, ReadBodies}
 use Rattle.std.specs.Prelude.{if◌then◌else◌}
 use Rattle.std.proofs.lemmas.Bool.{cases_Bool}
-use Rattle.expression_laws.proofs.Rules.{weaken, choose}
+use Rattle.parse_laws.proofs.Rules.{weaken, choose}
 use Rattle.expression_laws.proofs.Begins.{lowest, open_brace_begins_none}
 use Rattle.expression_laws.proofs.Primaries.{front_of}
 use Rattle.expression_laws.proofs.Arrays.{array_initializer_sound}

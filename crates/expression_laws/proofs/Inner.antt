@@ -18,7 +18,7 @@ use Rattle.parse_laws.specs.way.Readers.{IsBelow, itself, longer, reach}
 use Rattle.parse_laws.specs.way.Expressions.{Closed, more_arguments_at, arguments_at, length_at}
 use Rattle.expression_laws.specs.way.Parts.{ReadTypes, ReadBodies}
 use Rattle.je_grammar.proofs.AtLeastOne.{expressions_spell_some}
-use Rattle.expression_laws.proofs.Rules.{Front, front, behind_front}
+use Rattle.parse_laws.proofs.Fronts.{Front, front, behind_front}
 use Rattle.expression_laws.proofs.Begins.{lowest, close_paren_begins_none, close_bracket_begins_none}
 use Rattle.expression_laws.proofs.Primaries.{length_sound}
 

@@ -1,4 +1,3 @@
-pub mod Rules
 pub mod Fronts
 pub mod Casts
 pub mod Begins

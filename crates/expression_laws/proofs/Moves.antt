@@ -28,7 +28,8 @@ use Rattle.expression_laws.specs.way.Parts.{ReadTypes, ReadBodies}
 use Rattle.parse_laws.specs.way.Readers.{symbol_reach}
 use Rattle.je_grammar.proofs.AtLeastOne.{expressions_spell_some}
 use Rattle.je_grammar.proofs.Sizes.{size-SpellsArguments, size-SpellsName, size-SpellsDims}
-use Rattle.expression_laws.proofs.Rules.{either, choose, or_split, Front, front, behind_front, FrontName, front_name}
+use Rattle.parse_laws.proofs.Rules.{either, choose, or_split}
+use Rattle.parse_laws.proofs.Fronts.{Front, front, behind_front, FrontName, front_name}
 use Rattle.expression_laws.proofs.Fronts.{FrontPostfix, front_postfix, postfix_front, FrontBinary, front_binary, binary_front, FrontAssignment, front_assignment, assignment_front, PlainType, a_primitive, a_class, plain_type_read}
 use Rattle.expression_laws.proofs.Begins.{operators_from}
 use Rattle.expression_laws.proofs.Primaries.{GoodBelow, sound_below, GoodArguments, arguments_sound, GoodLength, length_sound}

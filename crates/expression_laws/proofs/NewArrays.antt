@@ -27,7 +27,7 @@ use Rattle.parse_laws.specs.way.Expressions.{Closed, makes_array_at, more_length
 use Rattle.expression_laws.specs.way.Parts.{ReadTypes, ReadBodies}
 use Rattle.je_grammar.proofs.AtLeastOne.{expressions_spell_some}
 use Rattle.je_grammar.proofs.Sizes.{size-SpellsDims}
-use Rattle.expression_laws.proofs.Rules.{Front, front, behind_front}
+use Rattle.parse_laws.proofs.Fronts.{Front, front, behind_front}
 use Rattle.expression_laws.proofs.Casts.{name_before, dims_before, past_name_before}
 use Rattle.expression_laws.proofs.Begins.{close_bracket_begins_none}
 use Rattle.expression_laws.proofs.Primaries.{MoreLengths, no_more, some_more, more_lengths_sound}

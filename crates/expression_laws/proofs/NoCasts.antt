@@ -28,7 +28,7 @@ use Rattle.parse_laws.specs.way.Types.{pair_at, name_at, past_name_at, primitive
 use Rattle.parse_laws.specs.way.Expressions.{prefix_operator}
 use Rattle.expression_laws.specs.way.Parts.{ReadTypes}
 use Rattle.std.specs.Prelude.{option_map}
-use Rattle.expression_laws.proofs.Rules.{Front, front, behind_front}
+use Rattle.parse_laws.proofs.Fronts.{Front, front, behind_front}
 use Rattle.expression_laws.proofs.Fronts.{FrontPrimitive, front_primitive, primitive_front}
 use Rattle.expression_laws.proofs.Begins.{expression_begins, close_bracket_begins_none}
 

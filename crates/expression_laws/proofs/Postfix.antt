@@ -22,7 +22,7 @@ use Rattle.parse_laws.specs.way.Below.{Below}
 use Rattle.parse_laws.specs.way.Readers.{IsBelow, Reads, itself, longer, reach}
 use Rattle.parse_laws.specs.way.Expressions.{Closed, arguments_at, length_at, primary_at, index_step, selection_step, selections_at, increments_at, postfix_at}
 use Rattle.expression_laws.specs.way.Parts.{ReadTypes, ReadBodies}
-use Rattle.expression_laws.proofs.Rules.{Front, front, front_name}
+use Rattle.parse_laws.proofs.Fronts.{Front, front, front_name}
 use Rattle.expression_laws.proofs.Begins.{operators_to}
 use Rattle.expression_laws.proofs.Primaries.{GoodArguments, arguments_sound}
 use Rattle.expression_laws.proofs.Moves.{Moves, still, moved, no_longer, selections_move, increments_move, symbol_reaches, postfix_goes_on}

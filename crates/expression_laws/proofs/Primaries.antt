@@ -26,8 +26,10 @@ use Rattle.parse_laws.specs.way.Below.{Below}
 use Rattle.parse_laws.specs.way.Lists.{expressions}
 use Rattle.parse_laws.specs.way.Readers.{IsRead, IsBelow, any}
 use Rattle.parse_laws.specs.way.Expressions.{Closed, literal_at, is_outer_this_at, outer_this_at, makes_array_at, more_arguments_at, arguments_at, length_at, more_lengths_at, lengths_at, filled_at, array_at, object_at, creation_at, named_at, super_member_at, parens_at, primary_at}
-use Rattle.expression_laws.specs.way.Parts.{SpellsReference, is_reference, IsReferenceRead, ReadTypes, IsBodyRead, ReadBodies}
-use Rattle.expression_laws.proofs.Rules.{bind, either, choose, weaken, Front, front, behind_front, FrontName, front_name, identifier_front}
+use Rattle.expression_laws.specs.way.Parts.{IsReferenceRead, ReadTypes, IsBodyRead, ReadBodies}
+use Rattle.parse_laws.specs.way.Readers.{SpellsReference, is_reference}
+use Rattle.parse_laws.proofs.Rules.{bind, either, choose, weaken}
+use Rattle.parse_laws.proofs.Fronts.{Front, front, behind_front, FrontName, front_name, identifier_front}
 use Rattle.expression_laws.proofs.Fronts.{FrontLiteral, front_literal, literal_front, Element, an_element, element_read}
 use Rattle.expression_laws.proofs.Casts.{no_cast_in_brackets}
 use Rattle.expression_laws.proofs.Begins.{open_brace_begins_none}

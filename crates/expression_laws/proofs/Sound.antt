@@ -26,7 +26,8 @@ use Rattle.parse_laws.specs.way.Below.{Below}
 use Rattle.parse_laws.specs.way.Readers.{IsBelow}
 use Rattle.parse_laws.specs.way.Expressions.{Closed, prefix_operator, postfix_operator, binary_operator, assignment_operator, arguments_at, length_at, primary_at, selected_at, index_step, selection_step, selections_at, increments_at, postfix_at, may_be_cast, cast_at, prefix_at, unary_at, binary_step, operation_step, operations_at, choices_at, conditional_at, assignment_at, expression_layer}
 use Rattle.expression_laws.specs.way.Parts.{ReadTypes, ReadBodies}
-use Rattle.expression_laws.proofs.Rules.{bind, either, choose, weaken, or_split, Front, front, behind_front, FrontName, front_name, identifier_front}
+use Rattle.parse_laws.proofs.Rules.{bind, either, choose, weaken, or_split}
+use Rattle.parse_laws.proofs.Fronts.{Front, front, behind_front, FrontName, front_name, identifier_front}
 use Rattle.expression_laws.proofs.Fronts.{FrontPrefix, front_prefix, prefix_front, FrontPostfix, front_postfix, postfix_front, FrontBinary, front_binary, binary_front, FrontAssignment, front_assignment, assignment_front, PlainType, a_primitive, a_class, plain_type_read, plain_type_spelled, plain_has_no_arguments, plain_height}
 use Rattle.expression_laws.proofs.Begins.{height_positive, operators_from, operators_to, takes_class_cast}
 use Rattle.expression_laws.proofs.Primaries.{GoodBelow, Good, sound_below, GoodArguments, arguments_sound, GoodLength, length_sound, primary_sound}

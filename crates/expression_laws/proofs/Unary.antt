@@ -31,7 +31,7 @@ use Rattle.std.specs.Prelude.{nat_le}
 use Rattle.je_grammar.specs.Types.{ref_with_arguments, last_argument, more_arguments}
 use Rattle.je_grammar.specs.Context.{is_not_or_tilde}
 use Rattle.je_grammar.proofs.Sizes.{size-SpellsDims}
-use Rattle.expression_laws.proofs.Rules.{Front, front, behind_front, behind_of}
+use Rattle.parse_laws.proofs.Fronts.{Front, front, behind_front, behind_of}
 use Rattle.expression_laws.proofs.Fronts.{PlainType, a_primitive, a_class}
 use Rattle.expression_laws.proofs.Casts.{dims_before, past_name_before}
 use Rattle.expression_laws.proofs.Begins.{operators_to, expression_begins}

@@ -17,7 +17,8 @@ use Rattle.parse_laws.specs.way.Lists.{members}
 use Rattle.parse_laws.specs.way.Readers.{IsBelow, IsRead, itself, longer, any}
 use Rattle.parse_laws.specs.way.Members.{more_members_at, class_body_at}
 use Rattle.expression_laws.specs.way.Parts.{IsBodyRead}
-use Rattle.expression_laws.proofs.Rules.{bind, either, weaken, Front, front, behind_front}
+use Rattle.parse_laws.proofs.Rules.{bind, either, weaken}
+use Rattle.parse_laws.proofs.Fronts.{Front, front, behind_front}
 use Rattle.member_laws.proofs.Fronts.{member_stops, member_begins}
 
 -- the list of these members

@@ -17,7 +17,7 @@ use Rattle.parse_laws.specs.way.Below.{Below}
 use Rattle.parse_laws.specs.way.Readers.{IsBelow, IsRead, any}
 use Rattle.parse_laws.specs.way.Members.{ClassHead, InterfaceHead, class_head_at, interface_head_at, class_body_at, class_at, interface_at, enum_at, declared_at, declaration_layer}
 use Rattle.expression_laws.specs.way.Parts.{IsBodyRead}
-use Rattle.expression_laws.proofs.Rules.{bind, choose, weaken}
+use Rattle.parse_laws.proofs.Rules.{bind, choose, weaken}
 use Rattle.type_laws.specs.Laws.{IsExact}
 use Rattle.type_laws.specs.Heads.{SpellsClassHead, class_head, SpellsInterfaceHead, interface_head}
 use Rattle.type_laws.proofs.Modifiers.{modifiers_sound, modifiers_exact}

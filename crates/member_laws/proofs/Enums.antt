@@ -17,7 +17,8 @@ use Rattle.je_grammar.specs.Tokens.{it_is, IsWord, IsSymbol, IsIdentifier, ident
 use Rattle.je_grammar.specs.Grammar.{SpellsConstants, last_constant, more_constants, SpellsMaybeConstants, no_constants, some_constants, SpellsMaybeSign, no_sign, a_sign, SpellsEnum, enum_declaration}
 use Rattle.parse_laws.specs.way.Tokens.{◌>>=◌, behind, behind_word, identifier_at}
 use Rattle.parse_laws.specs.way.Members.{more_constants_at, past_symbol, past_lone_comma, constants_at, enum_at}
-use Rattle.expression_laws.proofs.Rules.{bind, either, choose, weaken, Front, front, behind_front, FrontName, front_name, identifier_front}
+use Rattle.parse_laws.proofs.Rules.{bind, either, choose, weaken}
+use Rattle.parse_laws.proofs.Fronts.{Front, front, behind_front, FrontName, front_name, identifier_front}
 
 -- the constants behind others, and a comma behind them
 data Constants (before : List Identifier) (ts : List Token) (y : List Identifier × List Token) : Type 0 where

@@ -19,7 +19,8 @@ use Rattle.je_grammar.specs.Grammar.{SpellsMember, is_type, is_field, is_method,
 use Rattle.parse_laws.specs.way.Tokens.{behind, behind_word, is_symbol}
 use Rattle.parse_laws.specs.way.Types.{modifier_at, override_at}
 use Rattle.parse_laws.specs.way.Members.{begins_initializer_at}
-use Rattle.expression_laws.proofs.Rules.{either, Front, front, behind_front}
+use Rattle.parse_laws.proofs.Rules.{either}
+use Rattle.parse_laws.proofs.Fronts.{Front, front, behind_front}
 use Rattle.type_laws.specs.Laws.{modifiers_on}
 use Rattle.type_laws.proofs.Types.{TypeFront, primitive_front, name_front, type_begins}
 

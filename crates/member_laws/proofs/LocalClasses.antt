@@ -19,7 +19,8 @@ use Rattle.parse_laws.specs.way.Types.{modifiers_at}
 use Rattle.parse_laws.specs.way.Below.{Below}
 use Rattle.parse_laws.specs.way.Readers.{IsBelow, IsRead, any}
 use Rattle.parse_laws.specs.way.Members.{begins_local_class_at, class_at, local_class_at}
-use Rattle.expression_laws.proofs.Rules.{either, choose, weaken, Front, front, behind_front}
+use Rattle.parse_laws.proofs.Rules.{either, choose, weaken}
+use Rattle.parse_laws.proofs.Fronts.{Front, front, behind_front}
 use Rattle.expression_laws.proofs.Primaries.{front_of}
 use Rattle.type_laws.proofs.Modifiers.{modifier_less}
 use Rattle.member_laws.specs.Laws.{SpellsLocalClass, local_class_where}

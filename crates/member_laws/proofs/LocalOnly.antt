@@ -19,7 +19,7 @@ use Rattle.je_grammar.specs.Grammar.{Spells}
 use Rattle.je_grammar.specs.Grammar.{SpellsStatement, is_block, is_empty, is_labelled, is_if_only, is_if_else, is_while, is_do, is_for, is_for_each, is_switch, is_break, is_continue, is_return, is_throw, is_try, is_try_finally, is_expression_statement, SpellsBlockStatement, is_local, is_local_class, is_statement}
 use Rattle.je_grammar.proofs.Beginnings.{differs, begins_item}
 use Rattle.parse_laws.specs.way.Members.{begins_local_class_at}
-use Rattle.expression_laws.proofs.Rules.{Front, front}
+use Rattle.parse_laws.proofs.Fronts.{Front, front}
 use Rattle.expression_laws.proofs.Begins.{expression_begins}
 use Rattle.type_laws.proofs.Types.{TypeFront, primitive_front, name_front, type_begins}
 use Rattle.member_laws.proofs.LocalClasses.{IsLocal, word_of, local_sound}

@@ -22,7 +22,8 @@ use Rattle.parse_laws.specs.way.Expressions.{arguments_at}
 use Rattle.parse_laws.specs.way.Statements.{variables_at, block_statements_at}
 use Rattle.parse_laws.specs.way.Members.{MethodHead, ConstructorHead, method_head_at, constructor_head_at, begins_declared_at, begins_constructor_at, begins_method_at, begins_initializer_at, call_word_at, class_body_at, declared_at, method_body_at, method_at, first_call_at, explicit_or_implicit_at, constructor_at, field_at, initializer_at, modified_at, member_layer}
 use Rattle.expression_laws.specs.way.Parts.{ReadBodies}
-use Rattle.expression_laws.proofs.Rules.{bind, either, choose, weaken, Front, front, behind_front}
+use Rattle.parse_laws.proofs.Rules.{bind, either, choose, weaken}
+use Rattle.parse_laws.proofs.Fronts.{Front, front, behind_front}
 use Rattle.expression_laws.proofs.Primaries.{GoodArguments, arguments_sound}
 use Rattle.type_laws.specs.Heads.{SpellsMethodHead, method_head, SpellsConstructorHead, constructor_head}
 use Rattle.type_laws.proofs.Modifiers.{modifiers_sound}

@@ -24,7 +24,8 @@ use Rattle.parse_laws.specs.way.Readers.{IsBelow, itself, longer, is_block_tree}
 use Rattle.parse_laws.specs.way.Expressions.{arguments_at}
 use Rattle.parse_laws.specs.way.Statements.{variables_at, block_statements_at}
 use Rattle.parse_laws.specs.way.Members.{MethodHead, ConstructorHead, method_head_at, constructor_head_at, begins_declared_at, begins_constructor_at, begins_method_at, begins_initializer_at, call_word_at, class_body_at, declared_at, method_body_at, method_at, first_call_at, explicit_or_implicit_at, constructor_at, field_at, initializer_at, modified_at, member_layer}
-use Rattle.expression_laws.proofs.Rules.{either, Front, front}
+use Rattle.parse_laws.proofs.Rules.{either}
+use Rattle.parse_laws.proofs.Fronts.{Front, front}
 use Rattle.expression_laws.proofs.Primaries.{front_of}
 use Rattle.expression_laws.proofs.Inner.{arguments_exact}
 use Rattle.type_laws.specs.Laws.{types_on, throws_on}

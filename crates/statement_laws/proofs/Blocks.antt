@@ -116,7 +116,7 @@ module _ (names texts : List (List ℕ)) where
     pub item_whole : {b : Statement} {ts rest : List Token} → SpellsBlockStatement names texts b ts rest → statement_height b ≤ h → continues rest ≡ false → p.block_statement ts ≡ Some (b, rest)
     item_whole {b} {ts} {rest} d low s = elim (below.block_statement.exact b ts rest d tt low) [
       | itself q ↦ q
-      | longer q lt goes ↦ absurd cc
+      | longer q lt goes ↦ absurd (let g = goes.0 in cc)
     ]
 
     close_exact : (n : ℕ) (before : List Statement) {c : Token} (rest : List Token) → 0 < n → IsSymbol symbol.CloseBrace c → more_statements_at h p n before (c ∷ rest) ≡ Some (statements before, c.span, rest)

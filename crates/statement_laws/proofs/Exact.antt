@@ -15,18 +15,18 @@ use Rattle.je_grammar.specs.Context.{is_step, ends_short}
 use Rattle.je_grammar.specs.Grammar.{Spells, SpellsMaybe, nothing, something, SpellsMaybeLabel, no_label, a_label, SpellsCondition, condition}
 use Rattle.parse_laws.specs.way.Tokens.{◌>>=◌, with, Read, is_word}
 use Rattle.parse_laws.specs.way.Below.{Below}
-use Rattle.parse_laws.specs.way.Readers.{IsBelow, Reads, itself, longer, continues}
+use Rattle.parse_laws.specs.way.Readers.{IsBelow, Reads, itself, longer, continues, GoesOn}
 use Rattle.parse_laws.specs.way.Statements.{inner_block_at, condition_at, else_at, if_at, while_at, do_at, labelled_at, break_at, continue_at, return_at, throw_at, expression_statement_at, switch_at, block_statements_at, groups_at}
-use Rattle.statement_laws.specs.Else.{GoesOn}
 use Rattle.statement_laws.proofs.Stops.{begins_expression, no_front, expression_first}
 use Rattle.statement_laws.proofs.Groups.{whole}
 use Rattle.statement_laws.proofs.Sound.{IsElse, else_sound}
 use Rattle.je_grammar.specs.Grammar.{is_statement}
 use Rattle.je_grammar.proofs.AtLeastOne.{statements_spell_some}
-use Rattle.expression_laws.proofs.Rules.{weaken, Front, front}
+use Rattle.parse_laws.proofs.Rules.{weaken}
+use Rattle.parse_laws.proofs.Fronts.{Front, front}
 
 -- what goes on with a statement goes on with one that ends in it
-through : {o : Read Statement} {b : Statement} {rest : List Token} {G H : Type 0} (f : Statement → Statement) → Reads o b rest G → (G → H) → Reads (o >>= λ x. Some (f x.0, x.1)) (f b) rest H
+pub through : {o : Read Statement} {b : Statement} {rest : List Token} {G H : Type 0} (f : Statement → Statement) → Reads o b rest G → (G → H) → Reads (o >>= λ x. Some (f x.0, x.1)) (f b) rest H
 through f (itself q) g = rw q (itself refl)
 through f (longer q lt s) g = rw q (longer refl lt (g s))
 

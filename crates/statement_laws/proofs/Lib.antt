@@ -5,3 +5,6 @@ pub mod Blocks
 pub mod Starts
 pub mod Groups
 pub mod Exact
+pub mod Loops
+pub mod Tries
+pub mod Whole

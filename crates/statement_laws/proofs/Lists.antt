@@ -24,7 +24,8 @@ use Rattle.parse_laws.specs.way.Below.{Below, BlockTree}
 use Rattle.parse_laws.specs.way.Lists.{expressions, statements, VariableTree, variables}
 use Rattle.parse_laws.specs.way.Readers.{IsRead, IsBelow, SpellsBlockTree, is_block_tree, block_tree_height, any}
 use Rattle.parse_laws.specs.way.Statements.{CatchTree, catches, LabelTree, case_label, default_label, labels, GroupTree, groups, begins_label, variable_at, more_variables_at, variables_at, more_statements_at, block_statements_at, more_steps_at, steps_before_at, switch_label_at, labels_at, group_statements_at, group_at, groups_at, catch_at, catches_at}
-use Rattle.expression_laws.proofs.Rules.{bind, either, choose, weaken, Front, front, behind_front, behind_of, FrontName, front_name, identifier_front}
+use Rattle.parse_laws.proofs.Rules.{bind, either, choose, weaken}
+use Rattle.parse_laws.proofs.Fronts.{Front, front, behind_front, behind_of, FrontName, front_name, identifier_front}
 use Rattle.expression_laws.proofs.Primaries.{front_of}
 use Rattle.type_laws.proofs.Names.{name_sound, dims_sound}
 use Rattle.type_laws.proofs.Heads.{final_sound}
@@ -396,13 +397,13 @@ module _ (names texts : List (List ℕ)) where
 
     -- ---- catches
 
-    abbrev GoodBlock : List Token → BlockTree × List Token → Type 0
+    abbrev pub GoodBlock : List Token → BlockTree × List Token → Type 0
     GoodBlock = IsRead (SpellsBlockTree names texts) block_tree_height any h
 
-    abbrev GoodCatch : List Token → CatchTree × List Token → Type 0
+    abbrev pub GoodCatch : List Token → CatchTree × List Token → Type 0
     GoodCatch = IsRead IsCatch catch_height any h
 
-    catch_sound : (ts : List Token) → IfSome (catch_at h p ts) (GoodCatch ts)
+    pub catch_sound : (ts : List Token) → IfSome (catch_at h p ts) (GoodCatch ts)
     unfolding catch_at
     catch_sound ts =
         bind (behind_word word.Catch ts >>= behind symbol.OpenParen) _ (λ inside. (a : List Token) × Front (kind.Keyword word.Catch) ts a × Front (kind.Symbol symbol.OpenParen) a inside) (GoodCatch ts)

@@ -23,7 +23,8 @@ use Rattle.parse_laws.specs.way.Types.{type_at, final_at, begins_local_at}
 use Rattle.parse_laws.specs.way.Below.{Below, BlockTree}
 use Rattle.parse_laws.specs.way.Readers.{IsRead, IsBelow, SpellsBlockTree, is_block_tree, block_tree_height, any}
 use Rattle.parse_laws.specs.way.Statements.{label_before, is_for_each_at, variables_at, block_statements_at, block_layer, inner_block_at, condition_at, else_at, if_at, while_at, do_at, labelled_at, label_at, break_at, continue_at, return_at, throw_at, expression_statement_at, steps_before_at, start_locals_at, start_at, ended_condition_at, plain_for_at, for_each_at, for_at, groups_at, switch_at, catches_at, finally_at, try_at, statement_by, statement_layer, local_at}
-use Rattle.expression_laws.proofs.Rules.{bind, either, choose, weaken, is_of, Front, front, behind_front, FrontName, front_name, identifier_front}
+use Rattle.parse_laws.proofs.Rules.{bind, either, choose, weaken}
+use Rattle.parse_laws.proofs.Fronts.{is_of, Front, front, behind_front, FrontName, front_name, identifier_front}
 use Rattle.type_laws.specs.Laws.{Within}
 use Rattle.type_laws.proofs.Heads.{final_sound}
 use Rattle.type_laws.proofs.Public.{types_sound_law}
@@ -121,7 +122,7 @@ module _ (names texts : List (List ℕ)) where
     abbrev Good : List Token → Statement × List Token → Type 0
     Good = IsRead (SpellsStatement names texts) statement_height any (suc h)
 
-    abbrev GoodBlock : List Token → BlockTree × List Token → Type 0
+    abbrev pub GoodBlock : List Token → BlockTree × List Token → Type 0
     GoodBlock = IsRead (SpellsBlockTree names texts) block_tree_height any h
 
     abbrev GoodType : List Token → TypeName × List Token → Type 0
@@ -319,10 +320,10 @@ module _ (names texts : List (List ℕ)) where
         (λ inside o. bind (groups_at h p (length inside) [] inside) _ _ (Good (w ∷ ts)) (groups_sound names texts h p below (length inside) [] inside)
         (λ gs g. record { spelled = rw g.whole (switch_by i c.spelled o g.spelled); fits = tt; within = rw g.whole (let a = c.within in let b = g.within in omega arith) })))
 
-    abbrev FinallyRead : List Token → BlockTree × List Token → Type 0
+    abbrev pub FinallyRead : List Token → BlockTree × List Token → Type 0
     FinallyRead ts x = (mid : List Token) × Front (kind.Keyword word.Finally) ts mid × GoodBlock mid x
 
-    finally_sound : (ts : List Token) → IfSome (finally_at h p ts) (FinallyRead ts)
+    pub finally_sound : (ts : List Token) → IfSome (finally_at h p ts) (FinallyRead ts)
     unfolding finally_at
     finally_sound ts = bind (behind_word word.Finally ts) p.block (Front (kind.Keyword word.Finally) ts) (FinallyRead ts) (behind_front (kind.Keyword word.Finally) ts)
         (λ mid f. weaken (p.block mid) (GoodBlock mid) _ (below.block.sound mid) (λ x g. (mid, f, g)))

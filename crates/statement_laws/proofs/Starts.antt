@@ -22,14 +22,15 @@ use Rattle.je_grammar.specs.Context.{is_name, is_step}
 use Rattle.je_grammar.specs.Types.{SpellsName, simple_name, qualified_name, SpellsDims, no_dims, more_dims, SpellsTypeName, primitive_type, reference_type, plain_ref, ref_with_arguments, primitive_word}
 use Rattle.je_grammar.specs.Grammar.{IsLiteral, int_literal, long_literal, char_literal, text_literal, true_literal, false_literal, null_literal, SpellsArguments, no_arguments, some_arguments}
 use Rattle.je_grammar.specs.Grammar.{Spells, is_literal, is_simple_name, is_this, is_outer_this, is_parens, is_select, is_super_select, is_call, is_call_on, is_super_call, is_index, is_new, is_new_anonymous, is_new_array, is_new_array_of, is_primitive_cast, is_class_cast, is_prefix, is_postfix, is_binary, is_instance_of, is_conditional, is_assign}
-use Rattle.expression_laws.proofs.Rules.{front}
+use Rattle.parse_laws.proofs.Fronts.{front}
 use Rattle.expression_laws.proofs.Begins.{operators_to, close_bracket_begins_none}
 use Rattle.statement_laws.proofs.Stops.{first_is, first_kind, begins_expression, expression_first}
 
--- what follows the name in a type before an identifier
+-- what follows the name in a type before an identifier, or a label
 pub data Follows : List Token → Type 0 where
   identifier_follows : {t : Token} {rest : List Token} → IsIdentifier t → Follows (t ∷ rest)
   less_follows : {t : Token} {rest : List Token} → IsSymbol symbol.Less t → Follows (t ∷ rest)
+  colon_follows : {t : Token} {rest : List Token} → IsSymbol symbol.Colon t → Follows (t ∷ rest)
   brackets_follow : {o c : Token} {rest : List Token} → IsSymbol symbol.OpenBracket o → IsSymbol symbol.CloseBracket c → Follows (o ∷ c ∷ rest)
 
 -- the end of a name, or a point in it
@@ -40,6 +41,7 @@ data InName (a : List Token) : List Token → Type 0 where
 abbrev follows_name : TokenKind → Bool
 follows_name kind.Identifier = true
 follows_name (kind.Symbol symbol.Less) = true
+follows_name (kind.Symbol symbol.Colon) = true
 follows_name (kind.Symbol symbol.OpenBracket) = true
 follows_name (kind.Symbol symbol.Dot) = true
 follows_name _ = false
@@ -55,11 +57,13 @@ name_first (qualified_name it_is d m) = refl
 no_dot : {d : Token} {ts : List Token} → IsSymbol symbol.Dot d → ¬ Follows (d ∷ ts)
 no_dot it_is (identifier_follows i) = elim i [ ]
 no_dot it_is (less_follows i) = elim i [ ]
+no_dot it_is (colon_follows i) = elim i [ ]
 no_dot it_is (brackets_follow i j) = elim i [ ]
 
 follows_first : {a : List Token} → Follows a → first_is follows_name a ≡ true
 follows_first (identifier_follows it_is) = refl
 follows_first (less_follows it_is) = refl
+follows_first (colon_follows it_is) = refl
 follows_first (brackets_follow it_is j) = refl
 
 in_first : {a b : List Token} → InName a b → Follows a → first_is follows_name b ≡ true
@@ -142,6 +146,7 @@ module _ (names texts : List (List ℕ)) where
   no_index : {i : Expression} {o : Token} {mid rest a : List Token} → InName a (o ∷ mid) → IsSymbol symbol.OpenBracket o → Spells names texts i mid rest → ¬ Follows a
   no_index here it_is d (identifier_follows i) = elim i [ ]
   no_index here it_is d (less_follows i) = elim i [ ]
+  no_index here it_is d (colon_follows i) = elim i [ ]
   no_index here it_is d (brackets_follow i j) = close_bracket_begins_none names texts (front j) d
   no_index (dotted e m) it_is d g = elim e [ ]
 
@@ -200,3 +205,19 @@ module _ (names texts : List (List ℕ)) where
   step_no_type d s (primitive_type {p} {ts = ts} w n) i = let a = expression_first names texts d in let b = first_kind begins_expression ts w in let c = no_primitive_begins p in cc
   step_no_type d s (reference_type (plain_ref m) n) i = no_step d s m (dims_follow n i)
   step_no_type d s (reference_type (ref_with_arguments m o l) n) i = no_step d s m (less_follows o)
+
+  -- A step begins with no label.
+  pub step_no_label : {e : Expression} {t k : Token} {ts rest : List Token} → Spells names texts e (t ∷ k ∷ ts) rest → is_step e ≡ true → IsIdentifier t → ¬ IsSymbol symbol.Colon k
+  step_no_label d s i k = no_step d s (simple_name i) (colon_follows k)
+
+-- A type before an identifier begins with no label.
+colon_no_dims : {n : ℕ} {s e : Span} {c k : Token} {ts rest : List Token} → IsSymbol symbol.Colon c → SpellsDims n s e (c ∷ ts) (k ∷ rest) → ¬ IsIdentifier k
+colon_no_dims it_is no_dims i = elim i [ ]
+colon_no_dims it_is (more_dims o c d) i = elim o [ ]
+
+pub label_no_type : {t : TypeName} {i c k : Token} {ts rest : List Token} → SpellsTypeName t (i ∷ c ∷ ts) (k ∷ rest) → IsIdentifier i → IsSymbol symbol.Colon c → ¬ IsIdentifier k
+label_no_type (primitive_type w n) it_is c j = elim w [ ]
+label_no_type (reference_type (plain_ref (simple_name _)) n) i c j = colon_no_dims c n j
+label_no_type (reference_type (plain_ref (qualified_name _ d _)) n) i it_is j = elim d [ ]
+label_no_type (reference_type (ref_with_arguments (simple_name _) o l) n) i it_is j = elim o [ ]
+label_no_type (reference_type (ref_with_arguments (qualified_name _ d _) o l) n) i it_is j = elim d [ ]

@@ -22,7 +22,7 @@ use Rattle.je_grammar.specs.Grammar.{SpellsStatement, is_block, is_empty, is_lab
 use Rattle.parse_laws.specs.way.Tokens.{◌>>=◌, is_some, behind_kind}
 use Rattle.parse_laws.specs.way.Expressions.{prefix_kind}
 use Rattle.parse_laws.specs.way.Readers.{continues}
-use Rattle.expression_laws.proofs.Rules.{Front, front}
+use Rattle.parse_laws.proofs.Fronts.{Front, front}
 use Rattle.expression_laws.proofs.Begins.{may_begin, expression_begins}
 use Rattle.expression_laws.proofs.Inner.{not_front}
 use Rattle.type_laws.proofs.Types.{TypeFront, primitive_front, name_front, type_begins}

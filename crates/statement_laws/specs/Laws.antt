@@ -1,5 +1,6 @@
 -- Laws of reading statements, over any reader of the height below that reads right.
-use Rattle.std.specs.Prelude.{◌≡◌, ℕ, suc, ◌≤◌, Bool, true, List, [], ◌∷◌, length, Some, IfSome}
+use Rattle.std.specs.Prelude.{◌≡◌, ℕ, suc, ◌≤◌, Bool, true, false, ◌||◌, List, [], ◌∷◌, length, Some, IfSome}
+use Rattle.je_token.specs.declared.keyword.Keyword.TheVariants as word
 use Rattle.je_token.specs.declared.symbol.Symbol.{Symbol}
 use Rattle.je_token.specs.declared.symbol.Symbol.TheVariants as symbol
 use Rattle.je_token.specs.declared.token.Token.{Token}
@@ -8,12 +9,14 @@ use Rattle.je_grammar.specs.Types.{SpellsTypeName}
 use Rattle.je_grammar.specs.Context.{is_step}
 use Rattle.je_base.specs.declared.span.Span.{Span}
 use Rattle.je_ast.specs.Types.{TypeName}
-use Rattle.je_ast.specs.Trees.{Expression, Expressions, Variables, Groups}
+use Rattle.je_ast.specs.Trees.{Expression, Expressions, Statement, Variables, Groups}
 use Rattle.je_ast.specs.Trees as tree
 use Rattle.je_ast.specs.Height.{height, heights, statement_height, variables_height, groups_height}
 use Rattle.je_grammar.specs.Grammar.{Spells, SpellsMaybeSteps, SpellsCondition, SpellsGroups, SpellsVariables, SpellsStatement, SpellsBlockStatement}
+use Rattle.parse_laws.specs.way.Tokens.{is_word}
+use Rattle.parse_laws.specs.way.Types.{begins_local_at}
 use Rattle.parse_laws.specs.way.Below.{Below}
-use Rattle.parse_laws.specs.way.Readers.{IsBelow, IsRead, IsReader, SpellsBlockTree, block_tree_height, any, never}
+use Rattle.parse_laws.specs.way.Readers.{IsBelow, IsRead, IsReader, SpellsBlockTree, block_tree_height, GoesOn, any, never}
 use Rattle.parse_laws.specs.way.Statements.{condition_at, steps_before_at, groups_at, variables_at, block_layer, statement_layer, local_at}
 
 -- what holds over each reader of the height below that reads right
@@ -25,12 +28,12 @@ abbrev pub VariablesAreSpelled : Type 0
 VariablesAreSpelled = OverReaders (λ names texts h p. (ts : List Token) →
     IfSome (variables_at h p ts) (IsRead (SpellsVariables names texts) variables_height any h ts))
 
--- What is read as a statement or a declaration of local variables spells the tokens up to the rest, and is no
--- higher than was asked: one higher than below.
-abbrev pub StatementsAreSpelled : Type 0
-StatementsAreSpelled = OverReaders (λ names texts h p. (ts : List Token) →
-    IfSome (statement_layer h p ts) (IsRead (SpellsStatement names texts) statement_height any (suc h) ts))
+-- Statements are read right, one higher than below: what is read spells the tokens up to the rest and is no higher than
+-- was asked, and what spells them is read, or something longer where the next token goes on with it.
+abbrev pub StatementsAreRead : Type 0
+StatementsAreRead = OverReaders (λ names texts h p. IsReader (SpellsStatement names texts) statement_height any GoesOn (suc h) (statement_layer h p))
 
+-- What is read as a declaration of local variables spells the tokens up to the rest, and is no higher than was asked.
 abbrev pub LocalVariablesAreSpelled : Type 0
 LocalVariablesAreSpelled = OverReaders (λ names texts h p. (ts : List Token) →
     IfSome (local_at h p ts) (IsRead (SpellsBlockStatement names texts) statement_height any (suc h) ts))
@@ -61,3 +64,11 @@ GroupsAreRead = OverReaders (λ names texts h p. (gs : Groups) (c : Span) (ts re
 -- A step begins with no type before an identifier.
 abbrev pub NoStepBeginsLocal : Type 0
 NoStepBeginsLocal = (names texts : List (List ℕ)) (e : Expression) (t : TypeName) (k : Token) (ts rest all : List Token) → Spells names texts e ts rest → is_step e ≡ true → SpellsTypeName t ts (k ∷ all) → ¬ IsIdentifier k
+
+-- No statement begins with `final` or with a type before an identifier, and each declaration of local variables does.
+abbrev pub NoStatementBeginsLocal : Type 0
+NoStatementBeginsLocal = (names texts : List (List ℕ)) (h : ℕ) (b : Statement) (ts rest : List Token) → SpellsStatement names texts b ts rest → (is_word word.Final ts || begins_local_at h ts) ≡ false
+
+abbrev pub LocalVariablesBegin : Type 0
+LocalVariablesBegin = (names texts : List (List ℕ)) (h : ℕ) (f s : Span) (m : Bool) (t : TypeName) (vs : Variables) (ts rest : List Token) → SpellsBlockStatement names texts (tree.local f m t vs s) ts rest →
+    statement_height (tree.local f m t vs s) ≤ suc h → (is_word word.Final ts || begins_local_at h ts) ≡ true

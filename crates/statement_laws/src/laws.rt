@@ -1,7 +1,6 @@
 // Laws of reading statements, each on a function without a body.
 
-ghost use Rattle.statement_laws.specs.Laws.{VariablesAreSpelled, VariablesAreRead, BlocksAreRead, StatementsAreSpelled, LocalVariablesAreSpelled, LocalVariablesAreRead, ConditionsAreRead, StepsAreRead, GroupsAreRead, NoStepBeginsLocal};
-ghost use Rattle.statement_laws.specs.Else.{OverStatements, HoldersAreRead};
+ghost use Rattle.statement_laws.specs.Laws.{VariablesAreSpelled, VariablesAreRead, BlocksAreRead, StatementsAreRead, LocalVariablesAreSpelled, LocalVariablesAreRead, ConditionsAreRead, StepsAreRead, GroupsAreRead, NoStepBeginsLocal, NoStatementBeginsLocal, LocalVariablesBegin};
 ghost use Rattle.je_token.specs.declared.symbol.Symbol.TheVariants as symbol;
 
 /// Variables are read up to a semicolon: what is read is spelled and no higher than below, and what is spelled so is read.
@@ -15,9 +14,10 @@ pub fn blocks_are_read()
     ensures { BlocksAreRead }
 {}
 
-/// What is read as a statement is spelled, and no higher than was asked.
+/// A statement is read where one no higher than was asked is spelled, or something longer where the next token goes on with
+/// it; and else nothing is.
 pub fn statements_are_read()
-    ensures spelled { StatementsAreSpelled }
+    ensures { StatementsAreRead }
 {}
 
 /// A declaration of local variables is read exactly where one no higher than was asked is spelled.
@@ -35,13 +35,9 @@ pub fn parts_are_read()
     ensures groups { GroupsAreRead }
 {}
 
-/// No step begins with a type before an identifier, so it is no declaration of local variables.
-pub fn no_step_begins_local()
-    ensures { NoStepBeginsLocal }
-{}
-
-/// Labelled statements, `if`, `while` and `do` are read where they are spelled, or something longer where the next token goes on
-/// with them: an `else` only goes on with what ends in an `if` without `else`.
-pub fn holders_are_read()
-    ensures { OverStatements HoldersAreRead }
+/// Declarations of local variables begin as no other statement does: with `final`, or with a type before an identifier.
+pub fn local_variables_are_told()
+    ensures steps { NoStepBeginsLocal }
+    ensures statements { NoStatementBeginsLocal }
+    ensures locals { LocalVariablesBegin }
 {}

@@ -8,6 +8,6 @@
 mod laws;
 
 pub use laws::{
-    blocks_are_read, holders_are_read, local_variables_are_read, no_step_begins_local,
-    parts_are_read, statements_are_read, variables_are_read,
+    blocks_are_read, local_variables_are_read, local_variables_are_told, parts_are_read,
+    statements_are_read, variables_are_read,
 };

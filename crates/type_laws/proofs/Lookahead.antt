@@ -15,35 +15,35 @@ use Rattle.parse_laws.specs.way.Types.{pair_at, name_at, primitive_at, past_name
 use Rattle.type_laws.specs.Ahead.{BeginsCast, to_primitive, to_array, to_class, BeginsLocal, begins_local}
 use Rattle.type_laws.specs.Laws.{names_on, dims_on}
 use Rattle.type_laws.proofs.Rules.{either}
-use Rattle.type_laws.proofs.Fronts.{Behind, it_stands, behind_sound}
+use Rattle.parse_laws.proofs.Fronts.{Front, front, behind_front}
 use Rattle.type_laws.proofs.Names.{name_sound, name_complete, dims_sound, dims_complete}
 use Rattle.type_laws.proofs.Types.{Prim, a_prim, primitive_sound, primitive_exact, no_primitive, IsType, type_sound, type_complete}
 
-primitive_in : {ts inside rest : List Token} {p : Primitive} → Behind (kind.Symbol symbol.OpenParen) ts inside → Prim inside p rest → BeginsCast ts
-primitive_in (it_stands o) (a_prim {p} w) = to_primitive p o w
+primitive_in : {ts inside rest : List Token} {p : Primitive} → Front (kind.Symbol symbol.OpenParen) ts inside → Prim inside p rest → BeginsCast ts
+primitive_in (front o) (a_prim {p} w) = to_primitive p o w
 
-name_in : {ts inside mid last rest : List Token} {q : QualifiedName} {n : ℕ} {s e : Span} → Behind (kind.Symbol symbol.OpenParen) ts inside → SpellsName q inside mid →
-    SpellsDims n s e mid last → Behind (kind.Symbol symbol.CloseParen) last rest → (is_some (pair_at mid) || begins_operand rest) ≡ true → BeginsCast ts
-name_in (it_stands o) m no_dims (it_stands it_is) t = to_class o m it_is t
-name_in {s = s} (it_stands o) m (more_dims b c d) (it_stands k) t = to_array {s = s} o m (omega arith) (more_dims {s = s} b c d) k
+name_in : {ts inside mid last rest : List Token} {q : QualifiedName} {n : ℕ} {s e : Span} → Front (kind.Symbol symbol.OpenParen) ts inside → SpellsName q inside mid →
+    SpellsDims n s e mid last → Front (kind.Symbol symbol.CloseParen) last rest → (is_some (pair_at mid) || begins_operand rest) ≡ true → BeginsCast ts
+name_in (front o) m no_dims (front it_is) t = to_class o m it_is t
+name_in {s = s} (front o) m (more_dims b c d) (front k) t = to_array {s = s} o m (omega arith) (more_dims {s = s} b c d) k
 
 -- what is asked behind a name
 abbrev behind_name : List Token → Bool
 behind_name rest = with (behind symbol.CloseParen (past_dims_at rest)) (λ operand. is_some (pair_at rest) || begins_operand operand) false
 
-behind_name_sound : {ts inside : List Token} (q : QualifiedName) (rest : List Token) → Behind (kind.Symbol symbol.OpenParen) ts inside → SpellsName q inside rest → behind_name rest ≡ true → BeginsCast ts
+behind_name_sound : {ts inside : List Token} (q : QualifiedName) (rest : List Token) → Front (kind.Symbol symbol.OpenParen) ts inside → SpellsName q inside rest → behind_name rest ≡ true → BeginsCast ts
 unfolding past_dims_at
 behind_name_sound {ts} q rest o m =
-    either (behind symbol.CloseParen (past_dims_at rest)) _ _ (Behind (kind.Symbol symbol.CloseParen) (past_dims_at rest)) (λ (b : Bool). b ≡ true → BeginsCast ts)
-    (behind_sound (kind.Symbol symbol.CloseParen) (past_dims_at rest))
+    either (behind symbol.CloseParen (past_dims_at rest)) _ _ (Front (kind.Symbol symbol.CloseParen) (past_dims_at rest)) (λ (b : Bool). b ≡ true → BeginsCast ts)
+    (behind_front (kind.Symbol symbol.CloseParen) (past_dims_at rest))
     (λ operand k t. name_in o m (dims_sound (first_span rest) rest) k t) (λ e t. absurd cc)
 
-inside_name : {ts inside : List Token} (x : Read QualifiedName) → Behind (kind.Symbol symbol.OpenParen) ts inside → IfSome x (λ y. SpellsName y.0 inside y.1) →
+inside_name : {ts inside : List Token} (x : Read QualifiedName) → Front (kind.Symbol symbol.OpenParen) ts inside → IfSome x (λ y. SpellsName y.0 inside y.1) →
     with (option_map (λ y. y.1) x) behind_name false ≡ true → BeginsCast ts
 inside_name (Some y) o m t = behind_name_sound y.0 y.1 o m t
 inside_name None o m t = absurd cc
 
-inside_cast : {ts inside : List Token} (x : Read Primitive) → Behind (kind.Symbol symbol.OpenParen) ts inside → IfSome x (λ y. Prim inside y.0 y.1) →
+inside_cast : {ts inside : List Token} (x : Read Primitive) → Front (kind.Symbol symbol.OpenParen) ts inside → IfSome x (λ y. Prim inside y.0 y.1) →
     (is_some x || with (past_name_at inside) behind_name false) ≡ true → BeginsCast ts
 unfolding past_name_at
 inside_cast (Some y) o w t = primitive_in o w
@@ -52,7 +52,7 @@ inside_cast {inside = inside} None o w t = inside_name (name_at inside) o (name_
 pub cast_sound : (ts : List Token) → is_cast_at ts ≡ true → BeginsCast ts
 unfolding is_cast_at
 cast_sound ts =
-    either (behind symbol.OpenParen ts) _ _ (Behind (kind.Symbol symbol.OpenParen) ts) (λ (b : Bool). b ≡ true → BeginsCast ts) (behind_sound (kind.Symbol symbol.OpenParen) ts)
+    either (behind symbol.OpenParen ts) _ _ (Front (kind.Symbol symbol.OpenParen) ts) (λ (b : Bool). b ≡ true → BeginsCast ts) (behind_front (kind.Symbol symbol.OpenParen) ts)
     (λ inside o t. inside_cast (primitive_at inside) o (primitive_sound inside) t) (λ e t. absurd cc)
 
 -- the same brackets behind another span
@@ -83,14 +83,14 @@ cast_exact (to_class {q} {c = c} {rest = rest} it_is m it_is operand) =
 
 -- ---- local variables
 
-local_of : (h : ℕ) {ts rest all : List Token} (t : TypeName) → IsType h ts (t, all) → Behind kind.Identifier all rest → BeginsLocal h ts
-local_of h t g (it_stands i) = begins_local g.spelled g.within i
+local_of : (h : ℕ) {ts rest all : List Token} (t : TypeName) → IsType h ts (t, all) → Front kind.Identifier all rest → BeginsLocal h ts
+local_of h t g (front i) = begins_local g.spelled g.within i
 
 local_in : (h : ℕ) (ts : List Token) (o : Read TypeName) → IfSome o (IsType h ts) → with (option_map (λ x. x.1) o) is_identifier false ≡ true → BeginsLocal h ts
 local_in h ts None g e = absurd cc
-local_in h ts (Some x) g e = go (behind_kind kind.Identifier x.1) (behind_sound kind.Identifier x.1) e
+local_in h ts (Some x) g e = go (behind_kind kind.Identifier x.1) (behind_front kind.Identifier x.1) e
   where
-    go : (b : Option (List Token)) → IfSome b (Behind kind.Identifier x.1) → is_some b ≡ true → BeginsLocal h ts
+    go : (b : Option (List Token)) → IfSome b (Front kind.Identifier x.1) → is_some b ≡ true → BeginsLocal h ts
     go (Some rest) b t = local_of h x.0 g b
     go None b t = absurd cc
 

@@ -17,8 +17,10 @@ use Rattle.je_grammar.specs.Types.{modifier_word, SpellsModifier, override_modif
 use Rattle.parse_laws.specs.way.Tokens.{Read, ◌>>=◌, with, is_some, behind, identifier_at}
 use Rattle.parse_laws.specs.way.Types.{modifier_kind, word_modifier_at, same_text, override_at, modifier_at, more_modifiers_at, modifiers_at}
 use Rattle.type_laws.specs.Laws.{IsExact, modifiers_on}
-use Rattle.type_laws.proofs.Rules.{bind, choose, weaken, either}
-use Rattle.type_laws.proofs.Fronts.{Behind, it_stands, behind_sound, First, a_first, identifier_sound, is_kind, kind_is}
+use Rattle.parse_laws.proofs.Rules.{bind, weaken}
+use Rattle.type_laws.proofs.Rules.{choose, either}
+use Rattle.parse_laws.proofs.Fronts.{Front, front, behind_front, is_of}
+use Rattle.type_laws.proofs.Fronts.{First, a_first, identifier_sound, kind_is}
 
 record WordOf (k : TokenKind) (m : ModifierKind) : Type 0 where
   w : Keyword
@@ -63,8 +65,8 @@ same_text_true (x ∷ xs) (y ∷ ys) e =
 same_text_true _ _ e = absurd cc
 
 override_of : (names : List (List ℕ)) (text : List ℕ) {ts mid rest : List Token} {i : Identifier} → slice_get names i.name.0 ≡ Some text → same_text text (codes "Override") ≡ true →
-    Behind (kind.Symbol symbol.At) ts mid → First mid i rest → SpellsModifier names (record { kind = modifier.Override; span = join (first_span ts) i.span }) ts rest
-override_of names text found same (it_stands a) (a_first i) = override_modifier a i (found ∙ ap Some (same_text_true text (codes "Override") same))
+    Front (kind.Symbol symbol.At) ts mid → First mid i rest → SpellsModifier names (record { kind = modifier.Override; span = join (first_span ts) i.span }) ts rest
+override_of names text found same (front a) (a_first i) = override_modifier a i (found ∙ ap Some (same_text_true text (codes "Override") same))
 
 -- what was found, with where it was
 found_has : {A B : Type 0} (o : Option A) (f : A → Option B) (Q : B → Type 0) → ((x : A) → o ≡ Some x → IfSome (f x) Q) → IfSome (o >>= f) Q
@@ -80,13 +82,13 @@ module _ (names : List (List ℕ)) where
   word_modifier_sound [] = tt
   word_modifier_sound (t ∷ ts) =
       bind (modifier_kind t.kind) _ (WordOf t.kind) (Spelled (t ∷ ts)) (modifier_kind_sound t.kind)
-      (λ m w. word_modifier w.named (is_kind (kind.Keyword w.w) t w.is))
+      (λ m w. word_modifier w.named (is_of (kind.Keyword w.w) t w.is))
 
   override_sound : (ts : List Token) → IfSome (override_at names ts) (Spelled ts)
   unfolding override_at Spelled
   override_sound ts =
-      bind (behind symbol.At ts >>= identifier_at) _ (λ x. (mid : List Token) × Behind (kind.Symbol symbol.At) ts mid × First mid x.0 x.1) (Spelled ts)
-      (bind (behind symbol.At ts) _ (Behind (kind.Symbol symbol.At) ts) (λ x. (mid : List Token) × Behind (kind.Symbol symbol.At) ts mid × First mid x.0 x.1) (behind_sound (kind.Symbol symbol.At) ts)
+      bind (behind symbol.At ts >>= identifier_at) _ (λ x. (mid : List Token) × Front (kind.Symbol symbol.At) ts mid × First mid x.0 x.1) (Spelled ts)
+      (bind (behind symbol.At ts) _ (Front (kind.Symbol symbol.At) ts) (λ x. (mid : List Token) × Front (kind.Symbol symbol.At) ts mid × First mid x.0 x.1) (behind_front (kind.Symbol symbol.At) ts)
       (λ mid a. weaken (identifier_at mid) (λ x. First mid x.0 x.1) _ (identifier_sound mid) (λ x i. (mid, a, i))))
       (λ x g. found_has (slice_get names x.0.name.0) _ (Spelled ts)
       (λ text found. choose (same_text text (codes "Override")) _ None (Spelled ts)
@@ -108,54 +110,54 @@ module _ (names : List (List ℕ)) where
   modifier_less (override_modifier a t o) = omega arith
   modifier_less (word_modifier e w) = omega arith
 
-  record AreModifiers (front : List Modifier) (ts : List Token) (x : List Modifier × List Token) : Type 0 where
+  record AreModifiers (before : List Modifier) (ts : List Token) (x : List Modifier × List Token) : Type 0 where
     list : List Modifier
-    whole : x.0 ≡ front ++ list
+    whole : x.0 ≡ before ++ list
     spelled : SpellsModifiers names list ts x.1
 
-  modifiers_more : (front : List Modifier) (ts mid : List Token) (m : Modifier) (y : List Modifier × List Token) → SpellsModifier names m ts mid →
-      AreModifiers (front ++ m ∷ []) mid y → AreModifiers front ts y
-  modifiers_more front ts mid m y s a = record { list = m ∷ a.list; whole = a.whole ∙ append_assoc front (m ∷ []) a.list; spelled = more_modifiers s a.spelled }
+  modifiers_more : (before : List Modifier) (ts mid : List Token) (m : Modifier) (y : List Modifier × List Token) → SpellsModifier names m ts mid →
+      AreModifiers (before ++ m ∷ []) mid y → AreModifiers before ts y
+  modifiers_more before ts mid m y s a = record { list = m ∷ a.list; whole = a.whole ∙ append_assoc before (m ∷ []) a.list; spelled = more_modifiers s a.spelled }
 
-  more_modifiers_sound : (n : ℕ) (front : List Modifier) (ts : List Token) → AreModifiers front ts (more_modifiers_at names n front ts)
+  more_modifiers_sound : (n : ℕ) (before : List Modifier) (ts : List Token) → AreModifiers before ts (more_modifiers_at names n before ts)
   unfolding more_modifiers_at
-  more_modifiers_sound zero front ts = record { list = []; whole = sym (append-nil front); spelled = no_modifiers }
-  more_modifiers_sound (suc n) front ts =
-      either (modifier_at names ts) _ _ (λ x. SpellsModifier names x.0 ts x.1) (AreModifiers front ts) (modifier_sound ts)
-      (λ x s. modifiers_more front ts x.1 x.0 (more_modifiers_at names n (front ++ x.0 ∷ []) x.1) s (more_modifiers_sound n (front ++ x.0 ∷ []) x.1))
-      (λ e. record { list = []; whole = sym (append-nil front); spelled = no_modifiers })
+  more_modifiers_sound zero before ts = record { list = []; whole = sym (append-nil before); spelled = no_modifiers }
+  more_modifiers_sound (suc n) before ts =
+      either (modifier_at names ts) _ _ (λ x. SpellsModifier names x.0 ts x.1) (AreModifiers before ts) (modifier_sound ts)
+      (λ x s. modifiers_more before ts x.1 x.0 (more_modifiers_at names n (before ++ x.0 ∷ []) x.1) s (more_modifiers_sound n (before ++ x.0 ∷ []) x.1))
+      (λ e. record { list = []; whole = sym (append-nil before); spelled = no_modifiers })
 
   pub modifiers_sound : (ts : List Token) → SpellsModifiers names (modifiers_at names ts).0 ts (modifiers_at names ts).1
   unfolding modifiers_at
   modifiers_sound ts = let a = more_modifiers_sound (length ts) [] ts in subst (λ ms. SpellsModifiers names ms ts (more_modifiers_at names (length ts) [] ts).1) (sym a.whole) a.spelled
 
-  more_modifiers_less : (n : ℕ) (front : List Modifier) (ts : List Token) → length (more_modifiers_at names n front ts).1 ≤ length ts
+  more_modifiers_less : (n : ℕ) (before : List Modifier) (ts : List Token) → length (more_modifiers_at names n before ts).1 ≤ length ts
   unfolding more_modifiers_at
-  more_modifiers_less zero front ts = omega arith
-  more_modifiers_less (suc n) front ts =
+  more_modifiers_less zero before ts = omega arith
+  more_modifiers_less (suc n) before ts =
       either (modifier_at names ts) _ _ (λ x. SpellsModifier names x.0 ts x.1) (λ (y : List Modifier × List Token). length y.1 ≤ length ts) (modifier_sound ts)
-      (λ x s. let a = more_modifiers_less n (front ++ x.0 ∷ []) x.1 in let b = modifier_less s in omega arith) (λ e. omega arith)
+      (λ x s. let a = more_modifiers_less n (before ++ x.0 ∷ []) x.1 in let b = modifier_less s in omega arith) (λ e. omega arith)
 
-  more_modifiers_on : (n : ℕ) (front : List Modifier) (rest : List Token) → IsExact (modifiers_on names rest) front rest (more_modifiers_at names n front rest)
+  more_modifiers_on : (n : ℕ) (before : List Modifier) (rest : List Token) → IsExact (modifiers_on names rest) before rest (more_modifiers_at names n before rest)
   unfolding more_modifiers_at
-  more_modifiers_on zero front rest = inl refl
-  more_modifiers_on (suc n) front rest = go (modifier_at names rest) (modifier_sound rest)
+  more_modifiers_on zero before rest = inl refl
+  more_modifiers_on (suc n) before rest = go (modifier_at names rest) (modifier_sound rest)
     where
-      go : (o : Read Modifier) → IfSome o (λ x. SpellsModifier names x.0 rest x.1) → IsExact (is_some o) front rest (with o (λ x. more_modifiers_at names n (front ++ x.0 ∷ []) x.1) (front, rest))
+      go : (o : Read Modifier) → IfSome o (λ x. SpellsModifier names x.0 rest x.1) → IsExact (is_some o) before rest (with o (λ x. more_modifiers_at names n (before ++ x.0 ∷ []) x.1) (before, rest))
       go None p = inl refl
-      go (Some x) p = inr (let a = more_modifiers_less n (front ++ x.0 ∷ []) x.1 in let b = modifier_less p in omega arith, refl)
+      go (Some x) p = inr (let a = more_modifiers_less n (before ++ x.0 ∷ []) x.1 in let b = modifier_less p in omega arith, refl)
 
-  more_modifiers_exact : (n : ℕ) (front : List Modifier) {ms : List Modifier} {ts rest : List Token} → SpellsModifiers names ms ts rest → length ts ≤ n →
-      IsExact (modifiers_on names rest) (front ++ ms) rest (more_modifiers_at names n front ts)
+  more_modifiers_exact : (n : ℕ) (before : List Modifier) {ms : List Modifier} {ts rest : List Token} → SpellsModifiers names ms ts rest → length ts ≤ n →
+      IsExact (modifiers_on names rest) (before ++ ms) rest (more_modifiers_at names n before ts)
   unfolding more_modifiers_at
-  more_modifiers_exact n front {rest = rest} no_modifiers enough =
-      subst (λ (ms : List Modifier). IsExact (modifiers_on names rest) ms rest (more_modifiers_at names n front rest)) (sym (append-nil front)) (more_modifiers_on n front rest)
-  more_modifiers_exact zero front (more_modifiers s ms) enough = let a = modifier_less s in absurd (omega arith)
-  more_modifiers_exact (suc n) front {rest = rest} (more_modifiers {m} {ms} {mid = mid} s ss) enough =
+  more_modifiers_exact n before {rest = rest} no_modifiers enough =
+      subst (λ (ms : List Modifier). IsExact (modifiers_on names rest) ms rest (more_modifiers_at names n before rest)) (sym (append-nil before)) (more_modifiers_on n before rest)
+  more_modifiers_exact zero before (more_modifiers s ms) enough = let a = modifier_less s in absurd (omega arith)
+  more_modifiers_exact (suc n) before {rest = rest} (more_modifiers {m} {ms} {mid = mid} s ss) enough =
       let a = modifier_less s in
       rw (modifier_exact s)
-      (subst (λ (all : List Modifier). IsExact (modifiers_on names rest) all rest (more_modifiers_at names n (front ++ m ∷ []) mid)) (append_assoc front (m ∷ []) ms)
-      (more_modifiers_exact n (front ++ m ∷ []) ss (omega arith)))
+      (subst (λ (all : List Modifier). IsExact (modifiers_on names rest) all rest (more_modifiers_at names n (before ++ m ∷ []) mid)) (append_assoc before (m ∷ []) ms)
+      (more_modifiers_exact n (before ++ m ∷ []) ss (omega arith)))
 
   pub modifiers_exact : {ms : List Modifier} {ts rest : List Token} → SpellsModifiers names ms ts rest → IsExact (modifiers_on names rest) ms rest (modifiers_at names ts)
   unfolding modifiers_at

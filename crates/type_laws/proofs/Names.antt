@@ -12,52 +12,54 @@ use Rattle.je_grammar.specs.Types.{SpellsName, simple_name, qualified_name, Spel
 use Rattle.parse_laws.specs.way.Tokens.{Read, with, is_some, behind, identifier_at}
 use Rattle.parse_laws.specs.way.Types.{part_at, parts_at, name_at, pair_at, more_dims_at, dims_at}
 use Rattle.type_laws.specs.Laws.{IsExact, IsExactDims, names_on, dims_on}
-use Rattle.type_laws.proofs.Rules.{bind, weaken, either}
-use Rattle.type_laws.proofs.Fronts.{Behind, it_stands, behind_sound, First, a_first, identifier_sound}
+use Rattle.parse_laws.proofs.Rules.{bind, weaken}
+use Rattle.type_laws.proofs.Rules.{either}
+use Rattle.parse_laws.proofs.Fronts.{Front, front, behind_front}
+use Rattle.type_laws.proofs.Fronts.{First, a_first, identifier_sound}
 
 -- a point, an identifier, and the tokens behind them
 pub data Part : List Token → Identifier → List Token → Type 0 where
   a_part : {d t : Token} {rest : List Token} → IsSymbol symbol.Dot d → IsIdentifier t → Part (d ∷ t ∷ rest) (identifier t) rest
 
-part_of : {ts mid rest : List Token} {i : Identifier} → Behind (kind.Symbol symbol.Dot) ts mid → First mid i rest → Part ts i rest
-part_of (it_stands d) (a_first i) = a_part d i
+part_of : {ts mid rest : List Token} {i : Identifier} → Front (kind.Symbol symbol.Dot) ts mid → First mid i rest → Part ts i rest
+part_of (front d) (a_first i) = a_part d i
 
 pub part_sound : (ts : List Token) → IfSome (part_at ts) (λ x. Part ts x.0 x.1)
 part_sound ts =
-    bind (behind symbol.Dot ts) _ (Behind (kind.Symbol symbol.Dot) ts) (λ x. Part ts x.0 x.1) (behind_sound (kind.Symbol symbol.Dot) ts)
+    bind (behind symbol.Dot ts) _ (Front (kind.Symbol symbol.Dot) ts) (λ x. Part ts x.0 x.1) (behind_front (kind.Symbol symbol.Dot) ts)
     (λ mid b. weaken (identifier_at mid) (λ x. First mid x.0 x.1) (λ x. Part ts x.0 x.1) (identifier_sound mid) (λ x f. part_of b f))
 
 pub part_less : {ts rest : List Token} {i : Identifier} → Part ts i rest → length rest < length ts
 part_less (a_part d i) = omega arith
 
 -- what a loop has read behind these identifiers and this span
-record IsName (front : List Identifier) (s : Span) (ts : List Token) (x : QualifiedName × List Token) : Type 0 where
+record IsName (before : List Identifier) (s : Span) (ts : List Token) (x : QualifiedName × List Token) : Type 0 where
   q : QualifiedName
   spelled : SpellsName q ts x.1
-  whole : x.0 ≡ record { parts = front ++ q.parts; span = join s q.span }
+  whole : x.0 ≡ record { parts = before ++ q.parts; span = join s q.span }
 
 abbrev Names : ℕ → Type 0
-Names n = (front : List Identifier) (s : Span) (t : Token) (ts : List Token) → IsIdentifier t → IsName front s (t ∷ ts) (parts_at n (front ++ identifier t ∷ []) (join s t.span) ts)
+Names n = (before : List Identifier) (s : Span) (t : Token) (ts : List Token) → IsIdentifier t → IsName before s (t ∷ ts) (parts_at n (before ++ identifier t ∷ []) (join s t.span) ts)
 
-part_next : (n : ℕ) → Names n → (front : List Identifier) (s : Span) (t : Token) {ts rest : List Token} {j : Identifier} → IsIdentifier t → Part ts j rest →
-    IsName front s (t ∷ ts) (parts_at n ((front ++ identifier t ∷ []) ++ j ∷ []) (join (join s t.span) j.span) rest)
-part_next n names front s t i (a_part {t = u} {rest} d j) =
-    let m = names (front ++ identifier t ∷ []) (join s t.span) u rest j in
+part_next : (n : ℕ) → Names n → (before : List Identifier) (s : Span) (t : Token) {ts rest : List Token} {j : Identifier} → IsIdentifier t → Part ts j rest →
+    IsName before s (t ∷ ts) (parts_at n ((before ++ identifier t ∷ []) ++ j ∷ []) (join (join s t.span) j.span) rest)
+part_next n names before s t i (a_part {t = u} {rest} d j) =
+    let m = names (before ++ identifier t ∷ []) (join s t.span) u rest j in
     record {
       q = record { parts = identifier t ∷ m.q.parts; span = join t.span m.q.span };
       spelled = qualified_name i d m.spelled;
-      whole = m.whole ∙ ap (λ (ps : List Identifier). record { parts = ps; span = join s (join t.span m.q.span) }) (append_assoc front (identifier t ∷ []) m.q.parts);
+      whole = m.whole ∙ ap (λ (ps : List Identifier). record { parts = ps; span = join s (join t.span m.q.span) }) (append_assoc before (identifier t ∷ []) m.q.parts);
     }
 
-only : (front : List Identifier) (s : Span) (t : Token) (ts : List Token) → IsIdentifier t → IsName front s (t ∷ ts) (record { parts = front ++ identifier t ∷ []; span = join s t.span }, ts)
-only front s t ts i = record { q = record { parts = identifier t ∷ []; span = t.span }; spelled = simple_name i; whole = refl }
+only : (before : List Identifier) (s : Span) (t : Token) (ts : List Token) → IsIdentifier t → IsName before s (t ∷ ts) (record { parts = before ++ identifier t ∷ []; span = join s t.span }, ts)
+only before s t ts i = record { q = record { parts = identifier t ∷ []; span = t.span }; spelled = simple_name i; whole = refl }
 
 parts_sound : (n : ℕ) → Names n
 unfolding parts_at
-parts_sound zero front s t ts i = only front s t ts i
-parts_sound (suc n) front s t ts i =
-    either (part_at ts) _ _ (λ x. Part ts x.0 x.1) (IsName front s (t ∷ ts)) (part_sound ts)
-    (λ x p. part_next n (parts_sound n) front s t i p) (λ e. only front s t ts i)
+parts_sound zero before s t ts i = only before s t ts i
+parts_sound (suc n) before s t ts i =
+    either (part_at ts) _ _ (λ x. Part ts x.0 x.1) (IsName before s (t ∷ ts)) (part_sound ts)
+    (λ x p. part_next n (parts_sound n) before s t i p) (λ e. only before s t ts i)
 
 begins : {q : QualifiedName} {ts rest : List Token} → SpellsName q ts rest → join (first_span ts) q.span ≡ q.span
 begins (simple_name i) = refl
@@ -73,22 +75,22 @@ pub name_sound : (ts : List Token) → IfSome (name_at ts) (λ x. SpellsName x.0
 unfolding name_at
 name_sound ts = bind (identifier_at ts) _ (λ x. First ts x.0 x.1) (λ x. SpellsName x.0 ts x.1) (identifier_sound ts) (λ x f. name_of (length ts) f)
 
-parts_less : (n : ℕ) (front : List Identifier) (s : Span) (ts : List Token) → length (parts_at n front s ts).1 ≤ length ts
+parts_less : (n : ℕ) (before : List Identifier) (s : Span) (ts : List Token) → length (parts_at n before s ts).1 ≤ length ts
 unfolding parts_at
-parts_less zero front s ts = omega arith
-parts_less (suc n) front s ts =
+parts_less zero before s ts = omega arith
+parts_less (suc n) before s ts =
     either (part_at ts) _ _ (λ x. Part ts x.0 x.1) (λ (y : QualifiedName × List Token). length y.1 ≤ length ts) (part_sound ts)
-    (λ x p. let a = parts_less n (front ++ x.0 ∷ []) (join s x.0.span) x.1 in let b = part_less p in omega arith) (λ e. omega arith)
+    (λ x p. let a = parts_less n (before ++ x.0 ∷ []) (join s x.0.span) x.1 in let b = part_less p in omega arith) (λ e. omega arith)
 
-parts_on : (n : ℕ) (front : List Identifier) (s : Span) (rest : List Token) → IsExact (names_on rest) (record { parts = front; span = s }) rest (parts_at n front s rest)
+parts_on : (n : ℕ) (before : List Identifier) (s : Span) (rest : List Token) → IsExact (names_on rest) (record { parts = before; span = s }) rest (parts_at n before s rest)
 unfolding parts_at
-parts_on zero front s rest = inl refl
-parts_on (suc n) front s rest = go (part_at rest) (part_sound rest)
+parts_on zero before s rest = inl refl
+parts_on (suc n) before s rest = go (part_at rest) (part_sound rest)
   where
     go : (o : Read Identifier) → IfSome o (λ x. Part rest x.0 x.1) →
-        IsExact (is_some o) (record { parts = front; span = s }) rest (with o (λ x. parts_at n (front ++ x.0 ∷ []) (join s x.0.span) x.1) (record { parts = front; span = s }, rest))
+        IsExact (is_some o) (record { parts = before; span = s }) rest (with o (λ x. parts_at n (before ++ x.0 ∷ []) (join s x.0.span) x.1) (record { parts = before; span = s }, rest))
     go None p = inl refl
-    go (Some x) p = inr (let a = parts_less n (front ++ x.0 ∷ []) (join s x.0.span) x.1 in let b = part_less p in omega arith, refl)
+    go (Some x) p = inr (let a = parts_less n (before ++ x.0 ∷ []) (join s x.0.span) x.1 in let b = part_less p in omega arith, refl)
 
 first_identifier : {q : QualifiedName} {t : Token} {ts rest : List Token} → SpellsName q (t ∷ ts) rest → IsIdentifier t
 first_identifier (simple_name i) = i
@@ -97,18 +99,18 @@ first_identifier (qualified_name i d m) = i
 part_exact : {d t : Token} (ts : List Token) → IsSymbol symbol.Dot d → IsIdentifier t → part_at (d ∷ t ∷ ts) ≡ Some (identifier t, ts)
 part_exact ts it_is it_is = refl
 
-parts_exact : (n : ℕ) (front : List Identifier) (s : Span) {q : QualifiedName} {t : Token} {ts rest : List Token} → SpellsName q (t ∷ ts) rest → length ts ≤ n →
-    IsExact (names_on rest) (record { parts = front ++ q.parts; span = join s q.span }) rest (parts_at n (front ++ identifier t ∷ []) (join s t.span) ts)
+parts_exact : (n : ℕ) (before : List Identifier) (s : Span) {q : QualifiedName} {t : Token} {ts rest : List Token} → SpellsName q (t ∷ ts) rest → length ts ≤ n →
+    IsExact (names_on rest) (record { parts = before ++ q.parts; span = join s q.span }) rest (parts_at n (before ++ identifier t ∷ []) (join s t.span) ts)
 unfolding parts_at
-parts_exact n front s (simple_name {t} {rest} i) enough = parts_on n (front ++ identifier t ∷ []) (join s t.span) rest
-parts_exact n front s {rest} (qualified_name {t} {parts = ps} {s = e} {ts = []} i d m) enough = elim m [ ]
-parts_exact zero front s {rest} (qualified_name {t} {parts = ps} {s = e} {ts = u ∷ us} i d m) enough = absurd (omega arith)
-parts_exact (suc n) front s {rest} (qualified_name {t} {parts = ps} {s = e} {ts = u ∷ us} i d m) enough =
-    let ih = parts_exact n (front ++ identifier t ∷ []) (join s t.span) m (omega arith) in
-    let same : (front ++ identifier t ∷ []) ++ ps ≡ front ++ identifier t ∷ ps = append_assoc front (identifier t ∷ []) ps in
+parts_exact n before s (simple_name {t} {rest} i) enough = parts_on n (before ++ identifier t ∷ []) (join s t.span) rest
+parts_exact n before s {rest} (qualified_name {t} {parts = ps} {s = e} {ts = []} i d m) enough = elim m [ ]
+parts_exact zero before s {rest} (qualified_name {t} {parts = ps} {s = e} {ts = u ∷ us} i d m) enough = absurd (omega arith)
+parts_exact (suc n) before s {rest} (qualified_name {t} {parts = ps} {s = e} {ts = u ∷ us} i d m) enough =
+    let ih = parts_exact n (before ++ identifier t ∷ []) (join s t.span) m (omega arith) in
+    let same : (before ++ identifier t ∷ []) ++ ps ≡ before ++ identifier t ∷ ps = append_assoc before (identifier t ∷ []) ps in
     rw (part_exact us d (first_identifier m))
     (subst (λ (qs : List Identifier). IsExact (names_on rest) (record { parts = qs; span = join s (join t.span e) }) rest
-    (parts_at n ((front ++ identifier t ∷ []) ++ identifier u ∷ []) (join (join s t.span) u.span) us)) same ih)
+    (parts_at n ((before ++ identifier t ∷ []) ++ identifier u ∷ []) (join (join s t.span) u.span) us)) same ih)
 
 -- what comes of a name, for one that the tokens spell
 first_exact : {q : QualifiedName} {t : Token} {ts rest : List Token} → SpellsName q (t ∷ ts) rest → name_at (t ∷ ts) ≡ Some (parts_at (length (t ∷ ts)) (identifier t ∷ []) t.span ts)
@@ -131,13 +133,13 @@ name_exact {q} {ts = t ∷ ts} {rest} m = (
 pub data Pair : List Token → Span → List Token → Type 0 where
   a_pair : {o c : Token} {rest : List Token} → IsSymbol symbol.OpenBracket o → IsSymbol symbol.CloseBracket c → Pair (o ∷ c ∷ rest) c.span rest
 
-pair_of : {ts mid rest : List Token} → Behind (kind.Symbol symbol.OpenBracket) ts mid → Behind (kind.Symbol symbol.CloseBracket) mid rest → Pair ts (first_span mid) rest
-pair_of (it_stands o) (it_stands c) = a_pair o c
+pair_of : {ts mid rest : List Token} → Front (kind.Symbol symbol.OpenBracket) ts mid → Front (kind.Symbol symbol.CloseBracket) mid rest → Pair ts (first_span mid) rest
+pair_of (front o) (front c) = a_pair o c
 
 pub pair_sound : (ts : List Token) → IfSome (pair_at ts) (λ x. Pair ts x.0 x.1)
 pair_sound ts =
-    bind (behind symbol.OpenBracket ts) _ (Behind (kind.Symbol symbol.OpenBracket) ts) (λ x. Pair ts x.0 x.1) (behind_sound (kind.Symbol symbol.OpenBracket) ts)
-    (λ mid b. bind (behind symbol.CloseBracket mid) _ (Behind (kind.Symbol symbol.CloseBracket) mid) (λ x. Pair ts x.0 x.1) (behind_sound (kind.Symbol symbol.CloseBracket) mid)
+    bind (behind symbol.OpenBracket ts) _ (Front (kind.Symbol symbol.OpenBracket) ts) (λ x. Pair ts x.0 x.1) (behind_front (kind.Symbol symbol.OpenBracket) ts)
+    (λ mid b. bind (behind symbol.CloseBracket mid) _ (Front (kind.Symbol symbol.CloseBracket) mid) (λ x. Pair ts x.0 x.1) (behind_front (kind.Symbol symbol.CloseBracket) mid)
     (λ rest c. pair_of b c))
 
 pub pair_less : {ts rest : List Token} {s : Span} → Pair ts s rest → length rest < length ts

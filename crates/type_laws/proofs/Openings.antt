@@ -18,29 +18,31 @@ use Rattle.parse_laws.specs.way.Types.{type_at, formals_at, throws_at, parameter
 use Rattle.parse_laws.specs.way.Members.{ClassHead, InterfaceHead, MethodHead, ConstructorHead, class_head_at, interface_head_at, result_type_at, method_head_at, constructor_head_at}
 use Rattle.type_laws.specs.Laws.{names_on, dims_on, references_on, types_on, throws_on}
 use Rattle.type_laws.specs.Heads.{SpellsClassHead, class_head, class_height, SpellsInterfaceHead, interface_head, interface_height, SpellsMethodHead, method_head, method_height, SpellsConstructorHead, constructor_head, constructor_height}
-use Rattle.type_laws.proofs.Rules.{bind, weaken, choose, either, or_split}
-use Rattle.type_laws.proofs.Fronts.{Behind, it_stands, behind_sound, First, a_first, identifier_sound}
+use Rattle.parse_laws.proofs.Rules.{bind, weaken, or_split}
+use Rattle.type_laws.proofs.Rules.{choose, either}
+use Rattle.parse_laws.proofs.Fronts.{Front, front, behind_front}
+use Rattle.type_laws.proofs.Fronts.{First, a_first, identifier_sound}
 use Rattle.type_laws.proofs.Types.{TypeFront, primitive_front, name_front, type_begins, IsType, type_sound, type_complete}
 use Rattle.type_laws.proofs.Heads.{throws_sound, throws_exact, AreImplements, implements_sound, implements_exact, AreExtends, extends_all_sound, extends_all_exact, StopsRefs, IsSuperclass, superclass_sound, superclass_exact, AreAllFormals, formals_sound, formals_exact, AreAllParameters, parameters_sound, parameters_exact}
 
 -- what a test says that found something
-stands_in : (k : TokenKind) (ts : List Token) (o : Option (List Token)) → IfSome o (Behind k ts) → is_some o ≡ true → (rest : List Token) × Behind k ts rest
+stands_in : (k : TokenKind) (ts : List Token) (o : Option (List Token)) → IfSome o (Front k ts) → is_some o ≡ true → (rest : List Token) × Front k ts rest
 stands_in k ts (Some rest) b e = (rest, b)
 stands_in k ts None b e = absurd cc
 
-stands : (k : TokenKind) (ts : List Token) → is_some (behind_kind k ts) ≡ true → (rest : List Token) × Behind k ts rest
-stands k ts e = stands_in k ts (behind_kind k ts) (behind_sound k ts) e
+stands : (k : TokenKind) (ts : List Token) → is_some (behind_kind k ts) ≡ true → (rest : List Token) × Front k ts rest
+stands k ts e = stands_in k ts (behind_kind k ts) (behind_front k ts) e
 
 -- a word, an identifier, and the tokens behind them
 data Named (w : Keyword) : List Token → Identifier → List Token → Type 0 where
   named : {a t : Token} {rest : List Token} → IsWord w a → IsIdentifier t → Named w (a ∷ t ∷ rest) (identifier t) rest
 
-named_of : {w : Keyword} {ts mid rest : List Token} {i : Identifier} → Behind (kind.Keyword w) ts mid → First mid i rest → Named w ts i rest
-named_of (it_stands a) (a_first i) = named a i
+named_of : {w : Keyword} {ts mid rest : List Token} {i : Identifier} → Front (kind.Keyword w) ts mid → First mid i rest → Named w ts i rest
+named_of (front a) (a_first i) = named a i
 
 named_sound : (w : Keyword) (ts : List Token) → IfSome (behind_word w ts >>= identifier_at) (λ x. Named w ts x.0 x.1)
 named_sound w ts =
-    bind (behind_word w ts) _ (Behind (kind.Keyword w) ts) (λ x. Named w ts x.0 x.1) (behind_sound (kind.Keyword w) ts)
+    bind (behind_word w ts) _ (Front (kind.Keyword w) ts) (λ x. Named w ts x.0 x.1) (behind_front (kind.Keyword w) ts)
     (λ mid b. weaken (identifier_at mid) (λ x. First mid x.0 x.1) (λ x. Named w ts x.0 x.1) (identifier_sound mid) (λ x i. named_of b i))
 
 -- ---- classes and interfaces
@@ -54,9 +56,9 @@ pub record IsInterfaceHead (h : ℕ) (ts : List Token) (x : InterfaceHead × Lis
   pub within : interface_height x.0 ≤ h
 
 class_of : (h : ℕ) {ts mid next last end rest : List Token} {i : Identifier} {ps : List TypeParameter} {e : Option TypeName} {us : TypeNames} →
-    Named word.Class ts i mid → AreAllParameters h mid (ps, next) → IsSuperclass h next (e, last) → AreImplements h last (us, end) → Behind (kind.Symbol symbol.OpenBrace) end rest →
+    Named word.Class ts i mid → AreAllParameters h mid (ps, next) → IsSuperclass h next (e, last) → AreImplements h last (us, end) → Front (kind.Symbol symbol.OpenBrace) end rest →
     IsClassHead h ts (record { name = i; parameters = ps; extends = e; implements = us }, end)
-class_of h (named a t) ps e us (it_stands o) = record {
+class_of h (named a t) ps e us (front o) = record {
   spelled = class_head a t ps.spelled e.spelled us.spelled o;
   within = let x = ps.within in let y = e.within in let z = us.within in omega arith;
 }
@@ -73,9 +75,9 @@ class_head_sound h ts =
     (λ f. tt)))))
 
 interface_of : (h : ℕ) {ts mid next end rest : List Token} {i : Identifier} {ps : List TypeParameter} {us : TypeNames} →
-    Named word.Interface ts i mid → AreAllParameters h mid (ps, next) → AreExtends h next (us, end) → Behind (kind.Symbol symbol.OpenBrace) end rest →
+    Named word.Interface ts i mid → AreAllParameters h mid (ps, next) → AreExtends h next (us, end) → Front (kind.Symbol symbol.OpenBrace) end rest →
     IsInterfaceHead h ts (record { name = i; parameters = ps; extends = us }, end)
-interface_of h (named a t) ps us (it_stands o) = record {
+interface_of h (named a t) ps us (front o) = record {
   spelled = interface_head a t ps.spelled us.spelled o;
   within = let x = ps.within in let z = us.within in omega arith;
 }
@@ -135,13 +137,13 @@ pub record IsResult (h : ℕ) (ts : List Token) (x : Option TypeName × List Tok
   pub spelled : SpellsResult x.0 ts x.1
   pub within : type_height_if x.0 ≤ h
 
-void_of : (h : ℕ) {ts rest : List Token} → Behind (kind.Keyword word.Void) ts rest → IsResult h ts (None, rest)
-void_of h (it_stands w) = record { spelled = void_result w; within = omega arith }
+void_of : (h : ℕ) {ts rest : List Token} → Front (kind.Keyword word.Void) ts rest → IsResult h ts (None, rest)
+void_of h (front w) = record { spelled = void_result w; within = omega arith }
 
 pub result_sound : (h : ℕ) (ts : List Token) → IfSome (result_type_at h ts) (IsResult h ts)
 unfolding result_type_at
 result_sound h ts =
-    either (behind_word word.Void ts) _ _ (Behind (kind.Keyword word.Void) ts) (λ o. IfSome o (IsResult h ts)) (behind_sound (kind.Keyword word.Void) ts)
+    either (behind_word word.Void ts) _ _ (Front (kind.Keyword word.Void) ts) (λ o. IfSome o (IsResult h ts)) (behind_front (kind.Keyword word.Void) ts)
     (λ rest w. void_of h w)
     (λ e. bind (type_at h ts) _ (IsType h ts) (IsResult h ts) (type_sound h ts) (λ t g. record { spelled = typed_result g.spelled; within = g.within }))
 
@@ -196,9 +198,9 @@ method_head_exact h {rest = rest} (method_head {t = t} {next = next} r i fs ns) 
     rw (result_exact h r (omega arith) (identifier_stops next i), identifier_exact next i, formals_exact h fs (omega arith), throws_exact ns a.0 b.0 b.1) refl
 
 constructor_of : (h : ℕ) {ts next last all rest : List Token} {i : Identifier} {fs : List FormalParameter} {ns : List QualifiedName} →
-    First ts i next → AreAllFormals h next (fs, last) → SpellsThrows ns last all → Behind (kind.Symbol symbol.OpenBrace) all rest →
+    First ts i next → AreAllFormals h next (fs, last) → SpellsThrows ns last all → Front (kind.Symbol symbol.OpenBrace) all rest →
     IsConstructorHead h ts (record { name = i; formals = fs; throws = ns }, all)
-constructor_of h (a_first i) fs ns (it_stands o) = record { spelled = constructor_head i fs.spelled ns o; within = fs.within }
+constructor_of h (a_first i) fs ns (front o) = record { spelled = constructor_head i fs.spelled ns o; within = fs.within }
 
 pub constructor_head_sound : (h : ℕ) (ts : List Token) → IfSome (constructor_head_at h ts) (IsConstructorHead h ts)
 unfolding constructor_head_at

@@ -11,9 +11,10 @@ use Rattle.parse_laws.specs.way.Tokens.{Read, is_symbol, is_word}
 use Rattle.parse_laws.specs.way.Types.{name_at, type_at, reference_at, plain_type_at, past_type_at, past_name_at, formal_at, formals_at, throws_at, parameters_at, superclass_at, references_at}
 use Rattle.parse_laws.specs.way.Readers.{Reads, itself, longer}
 use Rattle.parse_laws.specs.way.Members.{class_head_at, interface_head_at, result_type_at, method_head_at, constructor_head_at}
-use Rattle.type_laws.specs.Laws.{Within, Sound, Exact, Complete, Longest, Unique, PassesSpelled, PassesEach, IsExact, IsAsLong, declared_height, SpellsReference, is_reference, SpellsPlainType, names_on, dims_on, references_on, types_on, plain_types_on, throws_on, extends_on, extends_all_on, implements_on, parameters_on, never}
+use Rattle.type_laws.specs.Laws.{Within, Sound, Exact, Complete, Longest, Unique, PassesSpelled, PassesEach, IsExact, IsAsLong, declared_height, SpellsPlainType, names_on, dims_on, references_on, types_on, plain_types_on, throws_on, extends_on, extends_all_on, implements_on, parameters_on, never}
+use Rattle.parse_laws.specs.way.Readers.{SpellsReference, is_reference}
 use Rattle.type_laws.specs.Heads.{SpellsClassHead, class_height, SpellsInterfaceHead, interface_height, SpellsMethodHead, method_height, SpellsConstructorHead, constructor_height}
-use Rattle.type_laws.proofs.Rules.{weaken, or_split}
+use Rattle.parse_laws.proofs.Rules.{weaken, or_split}
 use Rattle.type_laws.proofs.Names.{name_sound, name_exact, name_complete}
 use Rattle.type_laws.proofs.Types.{Stops, IsType, type_sound, type_exact, type_complete, type_longest, IsReference, reference_sound, reference_exact, reference_longest, IsPlainType, plain_type_sound, plain_type_exact}
 use Rattle.type_laws.proofs.Heads.{throws_exact, StopsRefs, AreImplements, implements_sound, implements_exact, AreExtends, extends_all_sound, extends_all_exact, IsSuperclass, superclass_sound, superclass_exact, IsFormal, formal_sound, formal_exact, AreAllFormals, formals_sound, formals_exact, AreAllParameters, parameters_sound, parameters_exact}

@@ -1,28 +1,12 @@
--- Rules for what holds of the answer of a reading, if there is one.
-use Rattle.std.proofs.Common.{◌≡◌, Bool, true, false, cond, ◌||◌, Option, Some, None, IfSome, refl}
-use Rattle.parse_laws.specs.way.Tokens.{◌>>=◌, with, is_some}
-
-pub bind : {A B : Type 0} (o : Option A) (f : A → Option B) (P : A → Type 0) (Q : B → Type 0) → IfSome o P → ((x : A) → P x → IfSome (f x) Q) → IfSome (o >>= f) Q
-bind (Some x) f P Q h g = g x h
-bind None f P Q h g = tt
+-- Rules for what holds of the answer of a reading, if there is one, that want what was decided.
+use Rattle.std.proofs.Common.{◌≡◌, Bool, true, false, cond, Option, Some, None, IfSome, refl}
+use Rattle.parse_laws.specs.way.Tokens.{with}
 
 pub choose : {A : Type 0} (b : Bool) (x y : Option A) (Q : A → Type 0) → (b ≡ true → IfSome x Q) → (b ≡ false → IfSome y Q) → IfSome (cond b x y) Q
 choose true x y Q f g = f refl
 choose false x y Q f g = g refl
 
-pub weaken : {A : Type 0} (o : Option A) (P Q : A → Type 0) → IfSome o P → ((x : A) → P x → Q x) → IfSome o Q
-weaken (Some x) P Q h f = f x h
-weaken None P Q h f = tt
-
 -- what holds of either answer
 pub either : {A B : Type 0} (o : Option A) (f : A → B) (y : B) (P : A → Type 0) (Q : B → Type 0) → IfSome o P → ((x : A) → P x → Q (f x)) → (o ≡ None → Q y) → Q (with o f y)
 either (Some x) f y P Q h g k = g x h
 either None f y P Q h g k = k refl
-
-pub is_none : {A : Type 0} (o : Option A) → is_some o ≡ false → o ≡ None
-is_none (Some x) e = absurd cc
-is_none None e = refl
-
-pub or_split : (a b : Bool) → (a || b) ≡ false → (a ≡ false) × (b ≡ false)
-or_split true b e = absurd cc
-or_split false b e = (refl, e)

@@ -18,8 +18,10 @@ use Rattle.parse_laws.specs.way.Tokens.{Read, ◌>>=◌, with, behind, is_symbol
 use Rattle.parse_laws.specs.way.Types.{name_at, dims_at, primitive_kind, primitive_at, type_names, primitive_type_at, with_dims, type_argument_at, type_arguments_at, reference_layer, type_layer, type_at, reference_at, element_at, plain_type_at}
 use Rattle.parse_laws.specs.way.Readers.{Reads, itself, longer}
 use Rattle.type_laws.specs.Laws.{IsExact, IsExactDims, IsAsLong, names_on, dims_on, plain_types_on}
-use Rattle.type_laws.proofs.Rules.{bind, choose, weaken, either, is_none}
-use Rattle.type_laws.proofs.Fronts.{Behind, it_stands, behind_sound, is_kind, closes_sound, closes_exact}
+use Rattle.parse_laws.proofs.Rules.{bind, weaken, is_none}
+use Rattle.type_laws.proofs.Rules.{choose, either}
+use Rattle.parse_laws.proofs.Fronts.{Front, front, behind_front, is_of}
+use Rattle.type_laws.proofs.Fronts.{closes_sound, closes_exact}
 use Rattle.type_laws.proofs.Names.{name_sound, name_exact, name_complete, dims_sound, dims_exact, dims_less}
 
 -- primitive types
@@ -40,7 +42,7 @@ pub primitive_sound : (ts : List Token) → IfSome (primitive_at ts) (λ x. Prim
 primitive_sound [] = tt
 primitive_sound (t ∷ ts) =
     bind (primitive_kind t.kind) _ (λ p. t.kind ≡ kind.Keyword (primitive_word p)) (λ x. Prim (t ∷ ts) x.0 x.1) (primitive_kind_sound t.kind)
-    (λ p e. a_prim (is_kind (kind.Keyword (primitive_word p)) t e))
+    (λ p e. a_prim (is_of (kind.Keyword (primitive_word p)) t e))
 
 pub primitive_exact : (p : Primitive) {t : Token} (ts : List Token) → IsWord (primitive_word p) t → primitive_at (t ∷ ts) ≡ Some (p, ts)
 primitive_exact prim.Boolean ts it_is = refl
@@ -88,20 +90,20 @@ record IsArgument (h : ℕ) (ts : List Token) (x : TypeName × List Token) : Typ
   spelled : SpellsTypeName x.0 ts x.1
   within : type_height x.0 ≤ h
 
-record AreArguments (h : ℕ) (front : List TypeName) (ts : List Token) (x : TypeNames × Span × List Token) : Type 0 where
+record AreArguments (h : ℕ) (before : List TypeName) (ts : List Token) (x : TypeNames × Span × List Token) : Type 0 where
   list : List TypeName
-  whole : x.0 ≡ type_names (front ++ list)
+  whole : x.0 ≡ type_names (before ++ list)
   spelled : SpellsTypeArguments (type_names list) x.1 ts x.2
   within : types_height (type_names list) ≤ h
 
 abbrev pub SoundTypes : ℕ → (List Token → Read TypeName) → Type 0
 SoundTypes h p = (ts : List Token) → IfSome (p ts) (IsType h ts)
 
-argument_more : (h : ℕ) (front : List TypeName) {t : TypeName} {ts all mid : List Token} (y : TypeNames × Span × List Token) →
-    IsArgument h ts (t, all) → Behind (kind.Symbol symbol.Comma) all mid → AreArguments h (front ++ t ∷ []) mid y → AreArguments h front ts y
-argument_more h front {t} y a (it_stands k) m = record {
+argument_more : (h : ℕ) (before : List TypeName) {t : TypeName} {ts all mid : List Token} (y : TypeNames × Span × List Token) →
+    IsArgument h ts (t, all) → Front (kind.Symbol symbol.Comma) all mid → AreArguments h (before ++ t ∷ []) mid y → AreArguments h before ts y
+argument_more h before {t} y a (front k) m = record {
   list = t ∷ m.list;
-  whole = m.whole ∙ ap type_names (append_assoc front (t ∷ []) m.list);
+  whole = m.whole ∙ ap type_names (append_assoc before (t ∷ []) m.list);
   spelled = more_arguments a.plain a.spelled k m.spelled;
   within = let b = a.within in let c = m.within in omega arith;
 }
@@ -113,23 +115,23 @@ module _ (h : ℕ) (p : List Token → Read TypeName) (sound : SoundTypes h p) w
       bind (p ts) _ (IsType h ts) (IsArgument h ts) (sound ts)
       (λ x g. choose (is_plain_primitive x.0) None (Some x) (IsArgument h ts) (λ e. tt) (λ e. record { plain = e; spelled = g.spelled; within = g.within }))
 
-  arguments_sound : (n : ℕ) (front : List TypeName) (ts : List Token) → IfSome (type_arguments_at p n front ts) (AreArguments h front ts)
+  arguments_sound : (n : ℕ) (before : List TypeName) (ts : List Token) → IfSome (type_arguments_at p n before ts) (AreArguments h before ts)
   unfolding type_arguments_at
-  arguments_sound zero front ts = tt
-  arguments_sound (suc n) front ts =
-      bind (type_argument_at p ts) _ (IsArgument h ts) (AreArguments h front ts) (argument_sound ts)
-      (λ x a. either (behind symbol.Comma x.1) _ _ (Behind (kind.Symbol symbol.Comma) x.1) (λ o. IfSome o (AreArguments h front ts)) (behind_sound (kind.Symbol symbol.Comma) x.1)
-      (λ mid k. weaken (type_arguments_at p n (front ++ x.0 ∷ []) mid) (AreArguments h (front ++ x.0 ∷ []) mid) (AreArguments h front ts) (arguments_sound n (front ++ x.0 ∷ []) mid)
-      (λ y m. argument_more h front y a k m))
-      (λ e. bind (closes_at x.1) _ (λ c. Closes c.0 x.1 c.1) (AreArguments h front ts) (closes_sound x.1)
+  arguments_sound zero before ts = tt
+  arguments_sound (suc n) before ts =
+      bind (type_argument_at p ts) _ (IsArgument h ts) (AreArguments h before ts) (argument_sound ts)
+      (λ x a. either (behind symbol.Comma x.1) _ _ (Front (kind.Symbol symbol.Comma) x.1) (λ o. IfSome o (AreArguments h before ts)) (behind_front (kind.Symbol symbol.Comma) x.1)
+      (λ mid k. weaken (type_arguments_at p n (before ++ x.0 ∷ []) mid) (AreArguments h (before ++ x.0 ∷ []) mid) (AreArguments h before ts) (arguments_sound n (before ++ x.0 ∷ []) mid)
+      (λ y m. argument_more h before y a k m))
+      (λ e. bind (closes_at x.1) _ (λ c. Closes c.0 x.1 c.1) (AreArguments h before ts) (closes_sound x.1)
       (λ c d. record { list = x.0 ∷ []; whole = refl; spelled = last_argument a.plain a.spelled d; within = let b = a.within in omega arith })))
 
   plain_reference : (ts : List Token) (x : QualifiedName × List Token) → SpellsName x.0 ts x.1 → IsReference (suc h) ts (class_type x.0 no_types 0 x.0.span, x.1)
   plain_reference ts x m = record { name = x.0; arguments = no_types; span = x.0.span; whole = refl; spelled = plain_ref m; within = omega arith }
 
-  with_arguments : (ts : List Token) {n : QualifiedName} {all mid : List Token} (y : TypeNames × Span × List Token) → SpellsName n ts all → Behind (kind.Symbol symbol.Less) all mid →
+  with_arguments : (ts : List Token) {n : QualifiedName} {all mid : List Token} (y : TypeNames × Span × List Token) → SpellsName n ts all → Front (kind.Symbol symbol.Less) all mid →
       AreArguments h [] mid y → IsReference (suc h) ts (class_type n y.0 0 (join n.span y.1), y.2)
-  with_arguments ts {n} {mid = mid} y m (it_stands o) a =
+  with_arguments ts {n} {mid = mid} y m (front o) a =
       record {
         name = n;
         arguments = y.0;
@@ -143,7 +145,7 @@ module _ (h : ℕ) (p : List Token → Read TypeName) (sound : SoundTypes h p) w
   unfolding reference_layer
   reference_layer_sound ts =
       bind (name_at ts) _ (λ x. SpellsName x.0 ts x.1) (IsReference (suc h) ts) (name_sound ts)
-      (λ x m. either (behind symbol.Less x.1) _ _ (Behind (kind.Symbol symbol.Less) x.1) (λ o. IfSome o (IsReference (suc h) ts)) (behind_sound (kind.Symbol symbol.Less) x.1)
+      (λ x m. either (behind symbol.Less x.1) _ _ (Front (kind.Symbol symbol.Less) x.1) (λ o. IfSome o (IsReference (suc h) ts)) (behind_front (kind.Symbol symbol.Less) x.1)
       (λ mid o. bind (type_arguments_at p (length mid) [] mid) _ (AreArguments h [] mid) (IsReference (suc h) ts) (arguments_sound (length mid) [] mid)
       (λ y a. with_arguments ts y m o a))
       (λ e. plain_reference ts x m))
@@ -238,17 +240,17 @@ module _ (h : ℕ) (p : List Token → Read TypeName) (complete : CompleteTypes 
   unfolding type_argument_at
   argument_exact t ts rest plain d low stops = rw (complete t ts rest d low stops, plain) refl
 
-  arguments_exact : (n : ℕ) (front : List TypeName) {us : TypeNames} {c : Span} {ts rest : List Token} → SpellsTypeArguments us c ts rest → types_height us ≤ h → length ts ≤ n →
-      type_arguments_at p n front ts ≡ Some (type_names (front ++ types_of us), c, rest)
+  arguments_exact : (n : ℕ) (before : List TypeName) {us : TypeNames} {c : Span} {ts rest : List Token} → SpellsTypeArguments us c ts rest → types_height us ≤ h → length ts ≤ n →
+      type_arguments_at p n before ts ≡ Some (type_names (before ++ types_of us), c, rest)
   unfolding type_arguments_at types_of
-  arguments_exact zero front (last_argument {t} {ts} {mid} plain d c) low enough = let a = types_spell_some t ts mid d in absurd (omega arith)
-  arguments_exact zero front (more_arguments {t} {k} {ts} {mid} plain d c m) low enough = let a = types_spell_some t ts (k ∷ mid) d in absurd (omega arith)
-  arguments_exact (suc n) front (last_argument {t} {ts} {mid} plain d c) low enough =
+  arguments_exact zero before (last_argument {t} {ts} {mid} plain d c) low enough = let a = types_spell_some t ts mid d in absurd (omega arith)
+  arguments_exact zero before (more_arguments {t} {k} {ts} {mid} plain d c m) low enough = let a = types_spell_some t ts (k ∷ mid) d in absurd (omega arith)
+  arguments_exact (suc n) before (last_argument {t} {ts} {mid} plain d c) low enough =
       rw (argument_exact t ts mid plain d (omega arith) (stops_closing c), no_comma c, closes_exact c) refl
-  arguments_exact (suc n) front (more_arguments {t} {us} {k} {c} {ts} {mid} {rest} plain d it_is m) low enough =
+  arguments_exact (suc n) before (more_arguments {t} {us} {k} {c} {ts} {mid} {rest} plain d it_is m) low enough =
       let a = types_spell_some t ts (k ∷ mid) d in
       rw (argument_exact t ts (k ∷ mid) plain d (omega arith) (stops_comma mid it_is))
-      (arguments_exact n (front ++ t ∷ []) m (omega arith) (omega arith) ∙ ap (λ (xs : List TypeName). Some (type_names xs, c, rest)) (append_assoc front (t ∷ []) (types_of us)))
+      (arguments_exact n (before ++ t ∷ []) m (omega arith) (omega arith) ∙ ap (λ (xs : List TypeName). Some (type_names xs, c, rest)) (append_assoc before (t ∷ []) (types_of us)))
 
   pub reference_layer_exact : {n : QualifiedName} {us : TypeNames} {s : Span} {ts rest : List Token} → SpellsRef n us s ts rest → types_height us ≤ h →
       names_on rest ≡ false → is_symbol symbol.Less rest ≡ false → reference_layer p ts ≡ Some (class_type n us 0 s, rest)
@@ -377,8 +379,8 @@ arguments_less : {us : TypeNames} {c : Span} {ts rest : List Token} → SpellsTy
 arguments_less (last_argument {t} {ts = ts} {mid} plain d c) = let a = types_spell_some t ts mid d in let b = closes_shorter c in omega arith
 arguments_less (more_arguments {t} {k = k} {ts = ts} {mid} plain d i m) = let a = types_spell_some t ts (k ∷ mid) d in let b = arguments_less m in omega arith
 
-less_behind_symbol : {k : TokenKind} {ts rest : List Token} → Behind k ts rest → length rest < length ts
-less_behind_symbol (it_stands i) = omega arith
+less_behind_symbol : {k : TokenKind} {ts rest : List Token} → Front k ts rest → length rest < length ts
+less_behind_symbol (front i) = omega arith
 
 with_dims_less : (x : TypeName × List Token) → length (with_dims x).1 ≤ length x.1
 with_dims_less (class_type n us k s, ts) = dims_less s ts
@@ -401,7 +403,7 @@ module _ (h : ℕ) where
       (IsAsLong (class_type n no_types 0 n.span) rest)
   behind_longer {n} {rest} x e =
       let le : length x.1 ≤ length rest = shorter e in
-      either (behind symbol.Less x.1) _ _ (Behind (kind.Symbol symbol.Less) x.1) (λ o. IfSome o (IsAsLong (class_type n no_types 0 n.span) rest)) (behind_sound (kind.Symbol symbol.Less) x.1)
+      either (behind symbol.Less x.1) _ _ (Front (kind.Symbol symbol.Less) x.1) (λ o. IfSome o (IsAsLong (class_type n no_types 0 n.span) rest)) (behind_front (kind.Symbol symbol.Less) x.1)
       (λ mid b. bind (type_arguments_at (type_at h) (length mid) [] mid) _ (AreArguments h [] mid) (IsAsLong (class_type n no_types 0 n.span) rest) (arguments_sound h (type_at h) (type_sound h) (length mid) [] mid)
       (λ us a. inr (let c = less_behind_symbol b in let d = arguments_less a.spelled in omega arith)))
       (λ none. plain e)

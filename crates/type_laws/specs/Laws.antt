@@ -4,8 +4,8 @@ use Rattle.je_base.specs.declared.span.Span.{Span}
 use Rattle.je_token.specs.declared.keyword.Keyword.TheVariants as word
 use Rattle.je_token.specs.declared.symbol.Symbol.TheVariants as symbol
 use Rattle.je_token.specs.declared.token.Token.{Token}
-use Rattle.je_ast.specs.Types.{QualifiedName, TypeName, TypeNames, FormalParameter, class_type, type_height}
-use Rattle.je_grammar.specs.Types.{SpellsTypeName, SpellsRef, has_arguments}
+use Rattle.je_ast.specs.Types.{TypeName, FormalParameter, type_height}
+use Rattle.je_grammar.specs.Types.{SpellsTypeName, has_arguments}
 use Rattle.parse_laws.specs.way.Tokens.{Read, is_some, is_symbol, is_word}
 use Rattle.parse_laws.specs.way.Types.{part_at, pair_at, modifier_at}
 use Rattle.parse_laws.specs.way.Readers.{Reads}
@@ -54,11 +54,6 @@ IsExact goes_on t rest x = (x ≡ (t, rest)) ⊎ ((length x.1 < length rest) × 
 -- the same for brackets, their number and the span that they come to
 abbrev pub IsExactDims : Bool → ℕ → Span → List Token → ℕ × Span × List Token → Type 0
 IsExactDims goes_on n e rest y = (y ≡ (n, e, rest)) ⊎ ((length y.2 < length rest) × (goes_on ≡ true))
-
--- a reference as a type without brackets
-pub data SpellsReference : TypeName → List Token → List Token → Type 0 where
-  is_reference : {n : QualifiedName} {args : TypeNames} {s : Span} {ts rest : List Token} → SpellsRef n args s ts rest →
-      SpellsReference (class_type n args 0 s) ts rest
 
 -- (Prim | Name) Dims: a type without type arguments
 abbrev pub SpellsPlainType : TypeName → List Token → List Token → Type 0

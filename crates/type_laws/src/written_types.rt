@@ -8,7 +8,8 @@ ghost use Rattle.je_grammar.specs.Types.{SpellsName, SpellsDims, SpellsTypeName}
 ghost use Rattle.je_grammar.specs.Grammar.{SpellsElement};
 ghost use Rattle.parse_laws.specs.way.Types.{name_at, past_name_at, dims_at, type_at, past_type_at, reference_at, plain_type_at, element_at, is_cast_at, begins_local_at};
 ghost use Rattle.parse_laws.specs.way.Readers.{Reads};
-ghost use Rattle.type_laws.specs.Laws.{Within, Sound, Exact, Complete, Longest, Unique, PassesSpelled, PassesEach, IsExactDims, SpellsReference, SpellsPlainType, names_on, dims_on, references_on, types_on, plain_types_on};
+ghost use Rattle.type_laws.specs.Laws.{Within, Sound, Exact, Complete, Longest, Unique, PassesSpelled, PassesEach, IsExactDims, SpellsPlainType, names_on, dims_on, references_on, types_on, plain_types_on};
+ghost use Rattle.parse_laws.specs.way.Readers.{SpellsReference};
 ghost use Rattle.type_laws.specs.Ahead.{BeginsCast, BeginsLocal};
 
 /// A name is read to its last part.

@@ -3,19 +3,15 @@ use Rattle.std.specs.Prelude.{◌≡◌, ℕ, ◌<◌, ◌≤◌, true, false, L
 use Rattle.je_base.specs.declared.span.Span.{Span}
 use Rattle.je_token.specs.declared.symbol.Symbol.TheVariants as symbol
 use Rattle.je_token.specs.declared.token.Token.{Token}
-use Rattle.je_ast.specs.Types.{QualifiedName, TypeName, TypeNames, class_type, type_height}
+use Rattle.je_ast.specs.Types.{QualifiedName, TypeName, type_height}
 use Rattle.je_ast.specs.Trees.{Members}
 use Rattle.je_ast.specs.Height.{members_height}
 use Rattle.je_grammar.specs.Grammar.{SpellsBody}
-use Rattle.je_grammar.specs.Types.{SpellsName, SpellsDims, SpellsRef}
+use Rattle.je_grammar.specs.Types.{SpellsName, SpellsDims}
 use Rattle.parse_laws.specs.way.Tokens.{is_some, is_symbol}
 use Rattle.parse_laws.specs.way.Types.{part_at, pair_at, name_at, dims_at, reference_at}
-use Rattle.parse_laws.specs.way.Readers.{Reads}
+use Rattle.parse_laws.specs.way.Readers.{Reads, SpellsReference}
 use Rattle.parse_laws.specs.way.Expressions.{Closed}
-
--- Ref, as a type without brackets
-pub data SpellsReference : TypeName → List Token → List Token → Type 0 where
-  is_reference : {n : QualifiedName} {args : TypeNames} {s : Span} {ts rest : List Token} → SpellsRef n args s ts rest → SpellsReference (class_type n args 0 s) ts rest
 
 pub record IsReferenceRead (most : ℕ) (ts : List Token) (x : TypeName × List Token) : Type 0 where
   pub spelled : SpellsReference x.0 ts x.1

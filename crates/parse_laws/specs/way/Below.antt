@@ -2,8 +2,7 @@
 use Rattle.std.specs.Prelude.{ℕ, List}
 use Rattle.je_base.specs.declared.span.Span.{Span}
 use Rattle.je_token.specs.declared.token.Token.{Token}
-use Rattle.je_ast.specs.Trees.{Expression, Expressions, Statement, Statements, Member, Members}
-use Rattle.je_ast.specs.Trees as tree
+use Rattle.je_ast.specs.Trees.{Expression, Statement, Statements, Member}
 use Rattle.parse_laws.specs.way.Tokens.{Read}
 
 -- the span of a block's `{`, its statements, and the span of its `}`

@@ -1,8 +1,7 @@
 -- Reading expressions, one definition for each function of the parser, over what reads the height below.
-use Rattle.std.specs.Prelude.{ℕ, zero, suc, ◌+◌, nat_lt, Bool, true, false, ◌&&◌, ◌||◌, not, ℤ, pos, List, [], ◌∷◌, ◌++◌, length, Option, Some, None, if◌then◌else◌, slice_get}
+use Rattle.std.specs.Prelude.{ℕ, zero, suc, ◌+◌, nat_lt, Bool, true, false, ◌||◌, ℤ, pos, List, [], ◌∷◌, ◌++◌, length, Option, Some, None, if◌then◌else◌, slice_get}
 use Rattle.je_base.specs.declared.span.Span.{Span}
 use Rattle.je_token.specs.declared.keyword.Keyword.TheVariants as word
-use Rattle.je_token.specs.declared.symbol.Symbol.{Symbol}
 use Rattle.je_token.specs.declared.symbol.Symbol.TheVariants as symbol
 use Rattle.je_token.specs.declared.token.Token.{Token}
 use Rattle.je_token.specs.declared.token.TokenKind.{TokenKind}
@@ -27,7 +26,7 @@ use Rattle.je_grammar.specs.Context.{begins_operand, is_bare_creation}
 use Rattle.parse_laws.specs.way.Tokens.{Read, ◌>>=◌, with, is_some, behind, behind_word, is_symbol, is_word, is_identifier, identifier_at}
 use Rattle.parse_laws.specs.way.Types.{name_at, past_name_at, primitive_at, dims_at, element_at, plain_type_at, reference_at, is_cast_at}
 use Rattle.parse_laws.specs.way.Below.{Below}
-use Rattle.parse_laws.specs.way.Lists.{expressions, members}
+use Rattle.parse_laws.specs.way.Lists.{expressions}
 
 -- an expression in brackets, of which the closing one is this symbol
 abbrev pub Inside : Type 0

@@ -1,5 +1,5 @@
 -- The recursion: what reads a height is one layer over what reads the height below. And whole files.
-use Rattle.std.specs.Prelude.{ℕ, zero, suc, Bool, true, false, ◌||◌, List, [], ◌∷◌, ◌++◌, length, Option, Some, None, if◌then◌else◌}
+use Rattle.std.specs.Prelude.{ℕ, zero, suc, ◌||◌, List, [], ◌∷◌, ◌++◌, length, Option, Some, None, if◌then◌else◌}
 use Rattle.je_token.specs.declared.keyword.Keyword.TheVariants as word
 use Rattle.je_token.specs.declared.symbol.Symbol.TheVariants as symbol
 use Rattle.je_token.specs.declared.token.Token.{Token}
@@ -7,9 +7,9 @@ use Rattle.je_token.specs.declared.token.TokenKind.TheVariants as kind
 use Rattle.je_ast.specs.Types.{QualifiedName}
 use Rattle.je_ast.specs.Trees.{Expression, Statement, Member, Declaration, CompilationUnit}
 use Rattle.je_ast.specs.Trees as tree
-use Rattle.parse_laws.specs.way.Tokens.{Read, ◌>>=◌, with, is_some, behind, behind_word, behind_kind, is_symbol, is_word}
+use Rattle.parse_laws.specs.way.Tokens.{Read, ◌>>=◌, with, behind, behind_word, behind_kind, is_symbol, is_word}
 use Rattle.parse_laws.specs.way.Types.{name_at, begins_local_at}
-use Rattle.parse_laws.specs.way.Below.{Below, BlockTree}
+use Rattle.parse_laws.specs.way.Below.{Below}
 use Rattle.parse_laws.specs.way.Expressions.{expression_layer, array_initializer_layer}
 use Rattle.parse_laws.specs.way.Statements.{statement_layer, local_at, block_layer}
 use Rattle.parse_laws.specs.way.Members.{member_layer, declaration_layer, local_class_at, begins_local_class_at, class_body_at}

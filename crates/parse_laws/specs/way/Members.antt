@@ -1,5 +1,5 @@
 -- Reading members and type declarations, one definition for each function of the parser, over what reads the height below.
-use Rattle.std.specs.Prelude.{ℕ, zero, suc, Bool, true, false, ◌&&◌, ◌||◌, not, nat_lt, List, [], ◌∷◌, ◌++◌, length, Option, Some, None, if◌then◌else◌}
+use Rattle.std.specs.Prelude.{ℕ, zero, suc, Bool, true, false, ◌||◌, nat_lt, List, [], ◌∷◌, ◌++◌, length, Option, Some, None, if◌then◌else◌}
 use Rattle.je_base.specs.declared.span.Span.{Span}
 use Rattle.je_token.specs.declared.keyword.Keyword.TheVariants as word
 use Rattle.je_token.specs.declared.symbol.Symbol.{Symbol}
@@ -13,9 +13,9 @@ use Rattle.je_ast.specs.Trees as tree
 use Rattle.je_ast.specs.Height.{constants_height}
 use Rattle.je_ast.specs.Spans.{join}
 use Rattle.je_grammar.specs.Tokens.{first_span}
-use Rattle.parse_laws.specs.way.Tokens.{Read, ◌>>=◌, with, is_some, behind, behind_word, is_symbol, is_word, is_identifier, identifier_at}
+use Rattle.parse_laws.specs.way.Tokens.{Read, ◌>>=◌, with, behind, behind_word, is_symbol, is_word, identifier_at}
 use Rattle.parse_laws.specs.way.Types.{type_at, past_type_at, formals_at, throws_at, parameters_at, superclass_at, references_at, modifiers_at}
-use Rattle.parse_laws.specs.way.Below.{Below, BlockTree}
+use Rattle.parse_laws.specs.way.Below.{Below}
 use Rattle.parse_laws.specs.way.Lists.{members}
 use Rattle.parse_laws.specs.way.Expressions.{Closed, arguments_at}
 use Rattle.parse_laws.specs.way.Statements.{variables_at, block_statements_at}

@@ -1,5 +1,5 @@
 -- What it is to read right: what is read is spelled, and what is spelled is read, or else something longer.
-use Rattle.std.specs.Prelude.{◌≡◌, ℕ, suc, ◌<◌, ◌≤◌, Bool, true, false, ◌||◌, List, [], ◌∷◌, length, Option, Some, None, IfSome, ⊤}
+use Rattle.std.specs.Prelude.{◌≡◌, ℕ, suc, ◌<◌, ◌≤◌, Bool, true, ◌||◌, List, [], ◌∷◌, length, Some, IfSome, ⊤}
 use Rattle.je_base.specs.declared.span.Span.{Span}
 use Rattle.je_token.specs.declared.keyword.Keyword.TheVariants as word
 use Rattle.je_token.specs.declared.symbol.Symbol.{Symbol}
@@ -7,10 +7,13 @@ use Rattle.je_token.specs.declared.symbol.Symbol.TheVariants as symbol
 use Rattle.je_token.specs.declared.token.Token.{Token}
 use Rattle.je_token.specs.declared.token.TokenKind.{TokenKind}
 use Rattle.je_token.specs.declared.token.TokenKind.TheVariants as kind
-use Rattle.je_ast.specs.Trees.{Expression, Statement, Statements, Member}
+use Rattle.je_ast.specs.Types.{QualifiedName, TypeName, TypeNames, class_type}
+use Rattle.je_ast.specs.Trees.{Statement, Statements}
 use Rattle.je_ast.specs.Height.{height, statement_height, statements_height, member_height}
 use Rattle.je_grammar.specs.Tokens.{IsSymbol}
 use Rattle.je_grammar.specs.Operators.{level}
+use Rattle.je_grammar.specs.Types.{SpellsRef}
+use Rattle.je_grammar.specs.Context.{ends_short}
 use Rattle.je_grammar.specs.Grammar.{Spells, SpellsInit, SpellsStatement, SpellsBlockStatement, SpellsBlock, SpellsMember}
 use Rattle.parse_laws.specs.way.Tokens.{Read, is_word}
 use Rattle.parse_laws.specs.way.Below.{BlockTree, Below}
@@ -81,6 +84,14 @@ reach (t ∷ ts) = kind_reach t.kind
 abbrev pub continues : List Token → Bool
 continues ts = is_word word.Else ts || is_word word.Catch ts || is_word word.Finally ts
 
+-- what goes on with a statement: an `else` only with one that ends in an `if` without `else`
+abbrev pub GoesOn : Statement → List Token → Type 0
+GoesOn b rest = (continues rest ≡ true) × (is_word word.Else rest ≡ true → ends_short b ≡ true)
+
+-- Ref, as a type without brackets
+pub data SpellsReference : TypeName → List Token → List Token → Type 0 where
+  is_reference : {n : QualifiedName} {args : TypeNames} {s : Span} {ts rest : List Token} → SpellsRef n args s ts rest → SpellsReference (class_type n args 0 s) ts rest
+
 -- The tree is what was read; or what was read leaves less than these tokens, which only some tokens let it.
 pub data Reads {T : Type 0} (o : Read T) (t : T) (rest : List Token) (goes_on : Type 0) : Type 0 where
   itself : o ≡ Some (t, rest) → Reads o t rest goes_on
@@ -116,7 +127,7 @@ module _ (names texts : List (List ℕ)) where
   pub record IsBelow (most : ℕ) (p : Below) : Type 0 where
     pub expression : (least : ℕ) → 0 < least → least ≤ 13 → IsReader (Spells names texts) height (λ e. least ≤ level e) (λ e rest. least ≤ reach rest) most (p.expression least)
     pub initializer : IsReader (SpellsInit names texts) height any (λ e rest. (1 ≤ level e) × (1 ≤ reach rest)) most p.initializer
-    pub statement : IsReader (SpellsStatement names texts) statement_height any (λ b rest. continues rest ≡ true) most p.statement
-    pub block_statement : IsReader (SpellsBlockStatement names texts) statement_height any (λ b rest. continues rest ≡ true) most p.block_statement
+    pub statement : IsReader (SpellsStatement names texts) statement_height any GoesOn most p.statement
+    pub block_statement : IsReader (SpellsBlockStatement names texts) statement_height any GoesOn most p.block_statement
     pub block : IsReader SpellsBlockTree block_tree_height any never most p.block
     pub member : IsReader (SpellsMember names texts) member_height any never most p.member

@@ -1,5 +1,5 @@
 -- Reading statements, one definition for each function of the parser, over what reads the height below.
-use Rattle.std.specs.Prelude.{ℕ, zero, suc, Bool, true, false, ◌&&◌, ◌||◌, not, List, [], ◌∷◌, ◌++◌, length, Option, Some, None, if◌then◌else◌}
+use Rattle.std.specs.Prelude.{ℕ, zero, suc, Bool, false, ◌||◌, List, [], ◌∷◌, ◌++◌, length, Option, Some, None, if◌then◌else◌}
 use Rattle.je_base.specs.declared.span.Span.{Span}
 use Rattle.je_token.specs.declared.keyword.Keyword.TheVariants as word
 use Rattle.je_token.specs.declared.symbol.Symbol.{Symbol}
@@ -14,7 +14,7 @@ use Rattle.je_ast.specs.Trees as tree
 use Rattle.je_ast.specs.Spans.{join, statement_span}
 use Rattle.je_grammar.specs.Tokens.{first_span}
 use Rattle.je_grammar.specs.Context.{is_step, ends_short, has_catch}
-use Rattle.parse_laws.specs.way.Tokens.{Read, ◌>>=◌, with, is_some, behind, behind_word, is_symbol, is_word, is_identifier, identifier_at}
+use Rattle.parse_laws.specs.way.Tokens.{Read, ◌>>=◌, with, is_some, behind, behind_word, is_symbol, is_word, identifier_at}
 use Rattle.parse_laws.specs.way.Types.{name_at, dims_at, type_at, past_type_at, final_at, begins_local_at}
 use Rattle.parse_laws.specs.way.Below.{Below, BlockTree}
 use Rattle.parse_laws.specs.way.Lists.{expressions, statements, VariableTree, variables}

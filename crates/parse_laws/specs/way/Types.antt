@@ -1,5 +1,5 @@
 -- Reading names, types, modifiers, type parameters and formal parameters, one definition for each function of the parser.
-use Rattle.std.specs.Prelude.{ℕ, zero, suc, nat_eq, Bool, true, false, ◌&&◌, ◌||◌, not, List, [], ◌∷◌, ◌++◌, length, Option, Some, None, if◌then◌else◌, codes, slice_get, option_map}
+use Rattle.std.specs.Prelude.{ℕ, zero, suc, nat_eq, Bool, true, false, ◌&&◌, ◌||◌, List, [], ◌∷◌, ◌++◌, length, Option, Some, None, if◌then◌else◌, codes, slice_get, option_map}
 use Rattle.je_base.specs.declared.span.Span.{Span}
 use Rattle.je_token.specs.declared.keyword.Keyword.{Keyword}
 use Rattle.je_token.specs.declared.keyword.Keyword.TheVariants as word
@@ -16,10 +16,10 @@ use Rattle.je_ast.specs.declared.decl.ModifierKind.TheVariants as modifier
 use Rattle.je_ast.specs.Types.{QualifiedName, TypeName, TypeNames, primitive, class_type, no_types, TypeParameter, FormalParameter}
 pub use Rattle.je_ast.specs.Types.{type_names}
 use Rattle.je_ast.specs.Spans.{join}
-use Rattle.je_grammar.specs.Tokens.{identifier, first_span}
+use Rattle.je_grammar.specs.Tokens.{first_span}
 use Rattle.je_grammar.specs.Types.{is_plain_primitive}
 use Rattle.je_grammar.specs.Context.{begins_operand}
-use Rattle.parse_laws.specs.way.Tokens.{Read, ◌>>=◌, with, is_some, behind, behind_word, is_symbol, is_word, is_identifier, identifier_at, closes_at}
+use Rattle.parse_laws.specs.way.Tokens.{Read, ◌>>=◌, with, is_some, behind, behind_word, is_identifier, identifier_at, closes_at}
 
 -- "." id
 abbrev pub part_at : List Token → Read Identifier

@@ -1,6 +1,6 @@
 use Rattle.parse_laws.specs.way.Expressions.{arguments_at}
 use Rattle.expression_laws.specs.Laws.{AreArguments}
-use Rattle.expression_laws.proofs.Rules.{weaken}
+use Rattle.parse_laws.proofs.Rules.{weaken}
 use Rattle.expression_laws.proofs.Primaries.{GoodArguments, arguments_sound}
 use Rattle.expression_laws.proofs.Inner.{arguments_exact}
 use Rattle.expression_laws.proofs.laws.arguments_are_read.Goals as goal

@@ -1,45 +1,13 @@
--- Rules for what holds of the answer of a reading, if there is one.
-use Rattle.std.proofs.Common.{◌≡◌, Bool, true, false, cond, List, [], ◌∷◌, get_or, Option, Some, None, IfSome, refl, sym, ap, ◌∙◌, subst, ◌||◌, nat_eq}
+-- Two kinds of tokens of one number are one kind.
+use Rattle.std.proofs.Common.{◌≡◌, true, List, [], ◌∷◌, get_or, refl, sym, ap, ◌∙◌, nat_eq}
 use Rattle.std.proofs.lemmas.Bool.{eqb-true, eq-eqb}
 use Rattle.je_token.specs.declared.keyword.Keyword.{Keyword}
 use Rattle.je_token.specs.declared.keyword.Keyword.TheVariants as word
 use Rattle.je_token.specs.declared.symbol.Symbol.{Symbol}
 use Rattle.je_token.specs.declared.symbol.Symbol.TheVariants as symbol
-use Rattle.je_token.specs.declared.token.Token.{Token}
 use Rattle.je_token.specs.declared.token.TokenKind.{TokenKind}
 use Rattle.je_token.specs.declared.token.TokenKind.TheVariants as kind
-use Rattle.je_grammar.specs.Tokens.{Is, it_is, IsIdentifier, identifier}
-use Rattle.je_ast.specs.declared.name.Identifier.{Identifier}
-use Rattle.parse_laws.specs.way.Tokens.{◌>>=◌, with, is_some, word_number, symbol_number, same, behind_kind, identifier_at}
-
--- ---- readings
-
-pub bind : {A B : Type 0} (o : Option A) (f : A → Option B) (P : A → Type 0) (Q : B → Type 0) → IfSome o P → ((x : A) → P x → IfSome (f x) Q) → IfSome (o >>= f) Q
-bind (Some x) f P Q h g = g x h
-bind None f P Q h g = tt
-
-pub either : {A B : Type 0} (o : Option A) (f : A → B) (y : B) (P : A → Type 0) (Q : B → Type 0) → IfSome o P → ((x : A) → P x → Q (f x)) → Q y → Q (with o f y)
-either (Some x) f y P Q h g k = g x h
-either None f y P Q h g k = k
-
--- where the second choice takes that nothing was read
-pub otherwise : {A B : Type 0} (o : Option A) (f : A → B) (y : B) (P : A → Type 0) (Q : B → Type 0) → IfSome o P → ((x : A) → o ≡ Some x → P x → Q (f x)) → (is_some o ≡ false → Q y) → Q (with o f y)
-otherwise (Some x) f y P Q h g k = g x refl h
-otherwise None f y P Q h g k = k refl
-
-pub choose : {A : Type 0} (b : Bool) (x y : A) (Q : A → Type 0) → (b ≡ true → Q x) → (b ≡ false → Q y) → Q (cond b x y)
-choose true x y Q f g = f refl
-choose false x y Q f g = g refl
-
-pub weaken : {A : Type 0} (o : Option A) (P Q : A → Type 0) → IfSome o P → ((x : A) → P x → Q x) → IfSome o Q
-weaken (Some x) P Q h f = f x h
-weaken None P Q h f = tt
-
-pub or_split : (a b : Bool) → (a || b) ≡ false → (a ≡ false) × (b ≡ false)
-or_split true b e = absurd cc
-or_split false b e = (refl, e)
-
--- ---- tokens
+use Rattle.parse_laws.specs.way.Tokens.{word_number, symbol_number, same}
 
 words : List Keyword
 words = word.Abstract ∷ word.Assert ∷ word.Boolean ∷ word.Break ∷ word.Byte ∷ word.Case ∷ word.Catch ∷ word.Char ∷ word.Class ∷ word.Const ∷ word.Continue ∷ word.Default ∷ word.Do ∷ word.Double ∷ word.Else ∷ word.Enum ∷ word.Extends ∷ word.False ∷ word.Final ∷ word.Finally ∷ word.Float ∷ word.For ∷ word.Goto ∷ word.If ∷ word.Implements ∷ word.Import ∷ word.InstanceOf ∷ word.Int ∷ word.Interface ∷ word.Long ∷ word.Native ∷ word.New ∷ word.Null ∷ word.Package ∷ word.Private ∷ word.Protected ∷ word.Public ∷ word.Return ∷ word.Short ∷ word.Static ∷ word.StrictFp ∷ word.Super ∷ word.Switch ∷ word.Synchronized ∷ word.This ∷ word.Throw ∷ word.Throws ∷ word.Transient ∷ word.True ∷ word.Try ∷ word.Void ∷ word.Volatile ∷ word.While ∷ []
@@ -171,22 +139,7 @@ same_true kind.TextLiteral kind.TextLiteral e = refl
 same_true kind.End kind.End e = refl
 same_true _ _ e = absurd cc
 
-pub is_of : (k : TokenKind) (t : Token) → t.kind ≡ k → Is k t
-is_of k t e = subst (λ j. Is j t) e it_is
-
--- the first token of a list, of this kind, and the tokens behind it
-pub data Front (k : TokenKind) : List Token → List Token → Type 0 where
-  front : {t : Token} {rest : List Token} → Is k t → Front k (t ∷ rest) rest
-
-front_by : (k : TokenKind) (t : Token) (rest : List Token) (b : Bool) → same t.kind k ≡ b → IfSome (cond b (Some rest) None) (Front k (t ∷ rest))
-front_by k t rest true e = front (is_of k t (same_true t.kind k e))
-front_by k t rest false e = tt
-
-pub behind_front : (k : TokenKind) (ts : List Token) → IfSome (behind_kind k ts) (Front k ts)
-behind_front k [] = tt
-behind_front k (t ∷ ts) = front_by k t ts (same t.kind k) refl
-
-same_refl : (k : TokenKind) → same k k ≡ true
+pub same_refl : (k : TokenKind) → same k k ≡ true
 same_refl (kind.Keyword w) = eq-eqb (word_number w) (word_number w) refl
 same_refl (kind.Symbol y) = eq-eqb (symbol_number y) (symbol_number y) refl
 same_refl kind.Identifier = refl
@@ -195,18 +148,3 @@ same_refl kind.LongLiteral = refl
 same_refl kind.CharLiteral = refl
 same_refl kind.TextLiteral = refl
 same_refl kind.End = refl
-
-pub behind_of : {k : TokenKind} {ts rest : List Token} → Front k ts rest → behind_kind k ts ≡ Some rest
-behind_of {k} (front it_is) = rw (same_refl k) refl
-
--- an identifier in front
-pub data FrontName : List Token → Identifier × List Token → Type 0 where
-  front_name : {t : Token} {rest : List Token} → IsIdentifier t → FrontName (t ∷ rest) (identifier t, rest)
-
-front_name_by : (t : Token) (rest : List Token) (b : Bool) → same t.kind kind.Identifier ≡ b → IfSome (cond b (Some (identifier t, rest)) None) (FrontName (t ∷ rest))
-front_name_by t rest true e = front_name (is_of kind.Identifier t (same_true t.kind kind.Identifier e))
-front_name_by t rest false e = tt
-
-pub identifier_front : (ts : List Token) → IfSome (identifier_at ts) (FrontName ts)
-identifier_front [] = tt
-identifier_front (t ∷ ts) = front_name_by t ts (same t.kind kind.Identifier) refl
