@@ -1,0 +1,4 @@
+pub mod Positive
+pub mod Layers
+pub mod Knots
+pub mod Longest

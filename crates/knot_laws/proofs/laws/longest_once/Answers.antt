@@ -1,0 +1,17 @@
+use Rattle.je_ast.specs.Height.{height, statement_height, member_height, declaration_height}
+use Rattle.je_grammar.specs.Operators.{level}
+use Rattle.je_grammar.specs.Grammar.{Spells, SpellsBlockStatement, SpellsMember, SpellsDeclaration}
+use Rattle.std.proofs.Common.{◌≤◌}
+use Rattle.parse_laws.specs.way.Readers.{reach, GoesOn, any, never}
+use Rattle.parse_laws.specs.way.Knot.{at, declaration_at}
+use Rattle.knot_laws.proofs.Knots.{declaration_is_read}
+use Rattle.knot_laws.proofs.Longest.{longest_once, expressions_read, any_expression, statements_read, members_read}
+use Rattle.knot_laws.proofs.laws.longest_once.Goals as goal
+
+pub returns : goal.returns
+returns c = record {
+  expressions = λ names texts. longest_once (Spells names texts) height (λ e. 1 ≤ level e) (λ e rest. 1 ≤ reach rest) (any_expression names texts) (λ most. (at names texts most).expression 1) (expressions_read names texts);
+  statements = λ names texts. longest_once (SpellsBlockStatement names texts) statement_height any GoesOn (λ b ts rest d. tt) (λ most. (at names texts most).block_statement) (statements_read names texts);
+  members = λ names texts. longest_once (SpellsMember names texts) member_height any never (λ m ts rest d. tt) (λ most. (at names texts most).member) (members_read names texts);
+  declarations = λ names texts. longest_once (SpellsDeclaration names texts) declaration_height any never (λ m ts rest d. tt) (declaration_at names texts) (declaration_is_read names texts);
+}
