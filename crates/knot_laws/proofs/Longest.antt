@@ -2,16 +2,16 @@
 use Rattle.std.proofs.Common.{◌≡◌, ℕ, ◌≤◌, max, List, [], length, Option, Some, None, IfSome, refl, sym, ap, ◌∙◌, arith}
 use Rattle.je_token.specs.declared.token.Token.{Token}
 use Rattle.je_ast.specs.Trees.{Expression}
-use Rattle.je_ast.specs.Height.{height, statement_height, member_height}
+use Rattle.je_ast.specs.Height.{height, statement_height, member_height, declaration_height}
 use Rattle.je_grammar.specs.Operators.{level}
-use Rattle.je_grammar.specs.Grammar.{Spells, SpellsBlockStatement, SpellsMember}
+use Rattle.je_grammar.specs.Grammar.{Spells, SpellsBlockStatement, SpellsMember, SpellsDeclaration}
 use Rattle.je_grammar.specs.Longest.{IsLongest}
 use Rattle.parse_laws.specs.way.Tokens.{Read}
 use Rattle.parse_laws.specs.way.Readers.{IsRead, IsReader, Reads, itself, longer, reach, GoesOn, any, never}
-use Rattle.parse_laws.specs.way.Knot.{at}
+use Rattle.parse_laws.specs.way.Knot.{at, declaration_at}
 use Rattle.expression_laws.proofs.Begins.{lowest}
 use Rattle.knot_laws.specs.Laws.{ReadsLongest, SpellsOnce, BeginsOnce, IsLongestOnce}
-use Rattle.knot_laws.proofs.Knots.{at_is_below}
+use Rattle.knot_laws.proofs.Knots.{at_is_below, declaration_is_read}
 
 some_or : {A : Type 0} → A → Option A → A
 some_or a (Some b) = b
@@ -85,3 +85,17 @@ module _ (names texts : List (List ℕ)) where
 
   pub members_read : (most : ℕ) → IsReader (SpellsMember names texts) member_height any never most (at names texts most).member
   members_read most = (at_is_below names texts most).member
+
+  -- ---- the longest that are read
+
+  pub expressions_longest : (most : ℕ) → ReadsLongest (Spells names texts) height most ((at names texts most).expression 1)
+  expressions_longest most = reads_longest (Spells names texts) height (λ e. 1 ≤ level e) (λ e rest. 1 ≤ reach rest) any_expression most ((at names texts most).expression 1) (expressions_read most)
+
+  pub statements_longest : (most : ℕ) → ReadsLongest (SpellsBlockStatement names texts) statement_height most (at names texts most).block_statement
+  statements_longest most = reads_longest (SpellsBlockStatement names texts) statement_height any GoesOn (λ b ts rest d. tt) most (at names texts most).block_statement (statements_read most)
+
+  pub members_longest : (most : ℕ) → ReadsLongest (SpellsMember names texts) member_height most (at names texts most).member
+  members_longest most = reads_longest (SpellsMember names texts) member_height any never (λ m ts rest d. tt) most (at names texts most).member (members_read most)
+
+  pub declarations_longest : (most : ℕ) → ReadsLongest (SpellsDeclaration names texts) declaration_height most (declaration_at names texts most)
+  declarations_longest most = reads_longest (SpellsDeclaration names texts) declaration_height any never (λ d ts rest s. tt) most (declaration_at names texts most) (declaration_is_read names texts most)

@@ -108,7 +108,7 @@ word_no_initializer {w = w} rest i n =
     (behind_front (kind.Keyword word.Static) (w ∷ rest)) (λ mid f. behind_it f n) (word_is_no_brace rest i)
 
 module _ (names : List (List ℕ)) where
-  no_brace : {ms : List Modifier} {ts mid : List Token} → SpellsModifiers names ms ts mid → ItemFront mid → is_symbol symbol.OpenBrace ts ≡ false
+  pub no_brace : {ms : List Modifier} {ts mid : List Token} → SpellsModifiers names ms ts mid → ItemFront mid → is_symbol symbol.OpenBrace ts ≡ false
   no_brace no_modifiers i = (item_no_initializer i).0
   no_brace (more_modifiers (override_modifier it_is t o) ms) i = refl
   no_brace (more_modifiers (word_modifier e it_is) ms) i = refl
@@ -119,7 +119,7 @@ module _ (names : List (List ℕ)) where
   no_initializer (more_modifiers (override_modifier it_is t o) ms) i = refl
   no_initializer (more_modifiers (word_modifier {rest = rest} e w) ms) i = word_no_initializer rest w (no_brace ms i)
 
-  modifiers_begin : {ms : List Modifier} {ts mid : List Token} → SpellsModifiers names ms ts mid → ItemFront mid → MemberFront ts
+  pub modifiers_begin : {ms : List Modifier} {ts mid : List Token} → SpellsModifiers names ms ts mid → ItemFront mid → MemberFront ts
   modifiers_begin no_modifiers i = item_front i
   modifiers_begin (more_modifiers (override_modifier a t o) ms) i = override_front a
   modifiers_begin (more_modifiers (word_modifier {m} e w) ms) i = modifier_front m e w

@@ -76,7 +76,7 @@ module _ (names : List (List ℕ)) where
   word_seen n modifier.Static s ms ts e i l go = absurd cc
   word_seen n modifier.Native s ms ts e i l go = absurd cc
 
-  modifiers_seen : (n : ℕ) {ms : List Modifier} {ts mid rest : List Token} → SpellsModifiers names ms ts mid → are_local ms ≡ true → Front (kind.Keyword word.Class) mid rest → length ts ≤ n → begins_local_class_at n ts ≡ true
+  pub modifiers_seen : (n : ℕ) {ms : List Modifier} {ts mid rest : List Token} → SpellsModifiers names ms ts mid → are_local ms ≡ true → Front (kind.Keyword word.Class) mid rest → length ts ≤ n → begins_local_class_at n ts ≡ true
   modifiers_seen n no_modifiers l c le = class_seen n c
   modifiers_seen zero (more_modifiers m ms) l c le = let a = modifier_less names m in absurd (omega arith)
   modifiers_seen (suc n) (more_modifiers (override_modifier a t o) ms) l c le = absurd cc

@@ -47,7 +47,7 @@ call_word_sound ts =
 module _ (names texts : List (List ℕ)) where
   -- ---- from what was read to what is spelled
 
-  call_of : {w : Bool × List Token} {es : Expressions} {c : Span} {ts last rest : List Token} → CallWord ts w → SpellsArguments names texts es c w.1 last → Front (kind.Symbol symbol.Semicolon) last rest →
+  pub call_of : {w : Bool × List Token} {es : Expressions} {c : Span} {ts last rest : List Token} → CallWord ts w → SpellsArguments names texts es c w.1 last → Front (kind.Symbol symbol.Semicolon) last rest →
       SpellsConstructorInvocation names texts (tree.explicit w.0 (first_span ts) es) ts rest
   call_of (this_word (front w)) a (front k) = this_call w a k
   call_of (super_word (front w)) a (front k) = super_call w a k

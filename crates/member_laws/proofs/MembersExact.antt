@@ -87,16 +87,16 @@ unfolding begins_method_at
 method_begins_by h ts {next} v e i = rw (v, e) (name_then next i)
 
 -- a method, as what stands before its bracket says
-record IsMethod (h : ℕ) (ts : List Token) : Type 0 where
-  no_declared : begins_declared_at ts ≡ false
-  no_constructor : begins_constructor_at ts ≡ false
-  a_method : begins_method_at h ts ≡ true
+pub record IsMethod (h : ℕ) (ts : List Token) : Type 0 where
+  pub no_declared : begins_declared_at ts ≡ false
+  pub no_constructor : begins_constructor_at ts ≡ false
+  pub a_method : begins_method_at h ts ≡ true
 
 void_seen : (h : ℕ) {w : Token} (ts : List Token) → IsWord word.Void w → IsMethod h (w ∷ ts)
 unfolding begins_method_at
 void_seen h ts it_is = record { no_declared = refl; no_constructor = refl; a_method = refl }
 
-method_seen : (h : ℕ) {m : MethodHead} {ts rest : List Token} → SpellsMethodHead m ts rest → method_height m ≤ h → IsMethod h ts
+pub method_seen : (h : ℕ) {m : MethodHead} {ts rest : List Token} → SpellsMethodHead m ts rest → method_height m ≤ h → IsMethod h ts
 method_seen h (method_head (void_result {rest = rest} w) i fs ns) low = void_seen h rest w
 method_seen h (method_head {ts = ts} {next} (typed_result d) i fs ns) low =
     let a = type_no_declared (type_begins d) in
@@ -128,7 +128,7 @@ field_seen h ts d low (a_variable {next = next} i n) =
 variable_stops : {ts : List Token} → Variable ts → types_on ts ≡ false
 variable_stops (a_variable {next = next} i n) = identifier_goes_on next i
 
-constructor_seen : {c : ConstructorHead} {ts rest : List Token} → SpellsConstructorHead c ts rest → (begins_declared_at ts ≡ false) × (begins_constructor_at ts ≡ true)
+pub constructor_seen : {c : ConstructorHead} {ts rest : List Token} → SpellsConstructorHead c ts rest → (begins_declared_at ts ≡ false) × (begins_constructor_at ts ≡ true)
 constructor_seen (constructor_head it_is fs ns o) = (refl, formals_open fs)
 
 module _ (names texts : List (List ℕ)) where
@@ -151,7 +151,7 @@ module _ (names texts : List (List ℕ)) where
 
   -- ---- the call of another constructor
 
-  arguments_open : {es : Expressions} {c : Span} {ts rest : List Token} → SpellsArguments names texts es c ts rest → is_symbol symbol.OpenParen ts ≡ true
+  pub arguments_open : {es : Expressions} {c : Span} {ts rest : List Token} → SpellsArguments names texts es c ts rest → is_symbol symbol.OpenParen ts ≡ true
   arguments_open (no_arguments it_is c) = refl
   arguments_open (some_arguments it_is l c) = refl
 
@@ -161,7 +161,7 @@ module _ (names texts : List (List ℕ)) where
   no_super_call : {b : Statement} {ts mid behind_it rest : List Token} → SpellsBlockStatement names texts b ts rest → Front (kind.Keyword word.Super) ts mid → ¬ Front (kind.Symbol symbol.OpenParen) mid behind_it
   no_super_call d (front w) (front o) = no_statement_of_call {k = word.Super} (record { no_type = refl; no_modifiers = refl; no_declaration = refl }) refl names texts refl w o d
 
-  no_call_of : {w : Bool × List Token} {b : Statement} {ts behind_it rest : List Token} → SpellsBlockStatement names texts b ts rest → CallWord ts w → ¬ Front (kind.Symbol symbol.OpenParen) w.1 behind_it
+  pub no_call_of : {w : Bool × List Token} {b : Statement} {ts behind_it rest : List Token} → SpellsBlockStatement names texts b ts rest → CallWord ts w → ¬ Front (kind.Symbol symbol.OpenParen) w.1 behind_it
   no_call_of d (this_word f) o = no_this_call d f o
   no_call_of d (super_word f) o = no_super_call d f o
 
@@ -184,10 +184,10 @@ module _ (names texts : List (List ℕ)) where
   no_call_first : {bs : Statements} {c : Span} (ts : List Token) {rest : List Token} → SpellsBlock names texts bs c ts rest → with (call_word_at ts) (λ w. is_symbol symbol.OpenParen w.1) false ≡ false
   no_call_first ts d = either (call_word_at ts) (λ w. is_symbol symbol.OpenParen w.1) false (CallWord ts) (λ (b : Bool). b ≡ false) (call_word_sound ts) (λ w f. no_bracket d f) refl
 
-  this_seen : {w : Token} (ts : List Token) → IsWord word.This w → call_word_at (w ∷ ts) ≡ Some (false, ts)
+  pub this_seen : {w : Token} (ts : List Token) → IsWord word.This w → call_word_at (w ∷ ts) ≡ Some (false, ts)
   this_seen ts it_is = refl
 
-  super_seen : {w : Token} (ts : List Token) → IsWord word.Super w → call_word_at (w ∷ ts) ≡ Some (true, ts)
+  pub super_seen : {w : Token} (ts : List Token) → IsWord word.Super w → call_word_at (w ∷ ts) ≡ Some (true, ts)
   super_seen ts it_is = refl
 
   semicolon_stops : {b : MaybeBlock} {c : Span} {ts rest : List Token} → SpellsMaybeBlock names texts b c ts rest → throws_on ts ≡ false
@@ -229,7 +229,7 @@ module _ (names texts : List (List ℕ)) where
     unfolding explicit_or_implicit_at
     implicit_by ts e = rw e refl
 
-    arguments_read : {es : Expressions} {c : Span} {ts rest : List Token} → SpellsArguments names texts es c ts rest → heights es ≤ h → arguments_at texts h p (class_body_at texts names h p) ts ≡ Some (es, c, rest)
+    pub arguments_read : {es : Expressions} {c : Span} {ts rest : List Token} → SpellsArguments names texts es c ts rest → heights es ≤ h → arguments_at texts h p (class_body_at texts names h p) ts ≡ Some (es, c, rest)
     arguments_read a low = arguments_exact names texts h p (class_body_at texts names h p) below (bodies names texts h p below) (types_are_read h) a low
 
     call_exact : {f : ConstructorInvocation} {bs : Statements} {c : Span} {ts mid rest : List Token} → SpellsConstructorInvocation names texts f ts mid → SpellsBlock names texts bs c mid rest → constructor_invocation_height f ≤ h →
@@ -273,11 +273,11 @@ module _ (names texts : List (List ℕ)) where
     unfolding modified_at
     as_declared ms s ts e f = rw (e, f) refl
 
-    as_constructor : (ms : List Modifier) (s : Span) (ts : List Token) → begins_declared_at ts ≡ false → begins_constructor_at ts ≡ true → modified_at texts names h p ms s ts ≡ constructor_at texts names h p ms s ts
+    pub as_constructor : (ms : List Modifier) (s : Span) (ts : List Token) → begins_declared_at ts ≡ false → begins_constructor_at ts ≡ true → modified_at texts names h p ms s ts ≡ constructor_at texts names h p ms s ts
     unfolding modified_at
     as_constructor ms s ts a b = rw (a, b) refl
 
-    as_method : (ms : List Modifier) (s : Span) {ts : List Token} → IsMethod h ts → modified_at texts names h p ms s ts ≡ method_at texts names h p ms s ts
+    pub as_method : (ms : List Modifier) (s : Span) {ts : List Token} → IsMethod h ts → modified_at texts names h p ms s ts ≡ method_at texts names h p ms s ts
     unfolding modified_at
     as_method ms s m = rw (m.no_declared, m.no_constructor, m.a_method) refl
 

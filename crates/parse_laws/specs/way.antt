@@ -7,5 +7,6 @@ pub mod Expressions
 pub mod Statements
 pub mod Members
 pub mod Knot
+pub mod Place
 pub mod Opened
 pub mod Rows

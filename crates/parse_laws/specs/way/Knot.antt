@@ -1,5 +1,5 @@
 -- The recursion: what reads a height is one layer over what reads the height below. And whole files.
-use Rattle.std.specs.Prelude.{ℕ, zero, suc, ◌||◌, List, [], ◌∷◌, ◌++◌, length, Option, Some, None, if◌then◌else◌}
+use Rattle.std.specs.Prelude.{ℕ, zero, suc, ◌||◌, List, [], ◌∷◌, ◌++◌, length, Option, Some, None, if◌then◌else◌, Bool, true, false}
 use Rattle.je_token.specs.declared.keyword.Keyword.TheVariants as word
 use Rattle.je_token.specs.declared.symbol.Symbol.TheVariants as symbol
 use Rattle.je_token.specs.declared.token.Token.{Token}
@@ -7,12 +7,17 @@ use Rattle.je_token.specs.declared.token.TokenKind.TheVariants as kind
 use Rattle.je_ast.specs.Types.{QualifiedName}
 use Rattle.je_ast.specs.Trees.{Expression, Statement, Member, Declaration, CompilationUnit}
 use Rattle.je_ast.specs.Trees as tree
-use Rattle.parse_laws.specs.way.Tokens.{Read, ◌>>=◌, with, behind, behind_word, behind_kind, is_symbol, is_word}
+use Rattle.parse_laws.specs.way.Tokens.{Read, ◌>>=◌, with, behind, behind_word, same, is_symbol, is_word}
 use Rattle.parse_laws.specs.way.Types.{name_at, begins_local_at}
 use Rattle.parse_laws.specs.way.Below.{Below}
 use Rattle.parse_laws.specs.way.Expressions.{expression_layer, array_initializer_layer}
 use Rattle.parse_laws.specs.way.Statements.{statement_layer, local_at, block_layer}
 use Rattle.parse_laws.specs.way.Members.{member_layer, declaration_layer, local_class_at, begins_local_class_at, class_body_at}
+
+-- the file's end, and nothing behind it
+abbrev pub is_end : List Token → Bool
+is_end (t ∷ []) = same t.kind kind.End
+is_end _ = false
 
 module _ (names texts : List (List ℕ)) where
   module _ (h : ℕ) (p : Below) where
@@ -69,8 +74,8 @@ module _ (names texts : List (List ℕ)) where
 
   unfoldable pub declarations_at : ℕ → ℕ → List Declaration → List Token → Option (List Declaration)
   declarations_at zero most front ts = None
-  declarations_at (suc n) most front ts = with (behind_kind kind.End ts) (λ rest. Some front)
-      (with (behind symbol.Semicolon ts) (declarations_at n most front) (declaration_at most ts >>= λ d. declarations_at n most (front ++ d.0 ∷ []) d.1))
+  declarations_at (suc n) most front ts = if is_end ts then Some front
+      else with (behind symbol.Semicolon ts) (declarations_at n most front) (declaration_at most ts >>= λ d. declarations_at n most (front ++ d.0 ∷ []) d.1)
 
   unfoldable pub unit_at : ℕ → List Token → Option CompilationUnit
   unit_at most ts = let is = imports_at (length ts) [] ts in declarations_at (length ts) most [] is.1 >>= λ ds. Some (record { imports = is.0; declarations = ds })

@@ -1,17 +1,5 @@
-use Rattle.je_ast.specs.Height.{height, statement_height, member_height, declaration_height}
-use Rattle.je_grammar.specs.Operators.{level}
-use Rattle.je_grammar.specs.Grammar.{Spells, SpellsBlockStatement, SpellsMember, SpellsDeclaration}
-use Rattle.std.proofs.Common.{◌≤◌}
-use Rattle.parse_laws.specs.way.Readers.{reach, GoesOn, any, never}
-use Rattle.parse_laws.specs.way.Knot.{at, declaration_at}
-use Rattle.knot_laws.proofs.Knots.{declaration_is_read}
-use Rattle.knot_laws.proofs.Longest.{reads_longest, expressions_read, any_expression, statements_read, members_read}
+use Rattle.knot_laws.proofs.Longest.{expressions_longest, statements_longest, members_longest, declarations_longest}
 use Rattle.knot_laws.proofs.laws.longest_are_read.Goals as goal
 
 pub returns : goal.returns
-returns c = record {
-  expressions = λ names texts most. reads_longest (Spells names texts) height (λ e. 1 ≤ level e) (λ e rest. 1 ≤ reach rest) (any_expression names texts) most ((at names texts most).expression 1) (expressions_read names texts most);
-  statements = λ names texts most. reads_longest (SpellsBlockStatement names texts) statement_height any GoesOn (λ b ts rest d. tt) most (at names texts most).block_statement (statements_read names texts most);
-  members = λ names texts most. reads_longest (SpellsMember names texts) member_height any never (λ m ts rest d. tt) most (at names texts most).member (members_read names texts most);
-  declarations = λ names texts most. reads_longest (SpellsDeclaration names texts) declaration_height any never (λ m ts rest d. tt) most (declaration_at names texts most) (declaration_is_read names texts most);
-}
+returns c = record { expressions = expressions_longest; statements = statements_longest; members = members_longest; declarations = declarations_longest }

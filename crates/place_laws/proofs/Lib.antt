@@ -1,0 +1,5 @@
+pub mod Nests
+pub mod Items
+pub mod Heads
+pub mod Opened
+pub mod Follows
