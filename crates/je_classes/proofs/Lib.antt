@@ -1,5 +1,6 @@
-mod Lists
+pub mod Lists
 mod Below
+pub mod Same
 mod Subtyping
 mod Sets
 mod FieldSets

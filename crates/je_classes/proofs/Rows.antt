@@ -5,18 +5,17 @@ use Rattle.je_base.specs.declared.span.NameId.{NameId}
 use Rattle.je_base.specs.declared.span.Span.{Span}
 use Rattle.je_core.specs.declared.program.Access.{Access}
 use Rattle.je_core.specs.declared.program.Access.TheVariants.{Public, Private, Hidden}
-use Rattle.je_core.specs.declared.program.Bridge.{Bridge}
 use Rattle.je_core.specs.declared.program.Sort.{Sort}
 use Rattle.je_core.specs.declared.program.Sort.TheVariants as sort
 use Rattle.je_core.specs.declared.types.Base.{Base}
 use Rattle.je_core.specs.declared.types.Base.TheVariants as base
 use Rattle.je_core.specs.declared.types.ClassId.{ClassId}
 use Rattle.je_core.specs.declared.types.Ty.{Ty}
-use Rattle.je_core.specs.declared.value.Value.TheVariants.{Int, Null}
+use Rattle.je_core.specs.declared.value.Value.TheVariants.{Int}
 use Rattle.je_core.specs.Core.{CoreField, CoreMethod, CoreClass, CoreProgram}
 use Rattle.je_classes.specs.Hierarchy.{is_below, object_class, library_class}
 use Rattle.je_classes.specs.Subtypes.{class_type, null_type, array_of, is_subtype}
-use Rattle.je_classes.specs.Members.{Member, Found, nothing, one, several, constructor_place}
+use Rattle.je_classes.specs.Members.{nothing, one, several, constructor_place}
 use Rattle.je_classes.specs.Slots.{slot_fields, fresh_slots, field_slot}
 use Rattle.je_classes.specs.Dispatch.{implemented, dispatched}
 use Rattle.je_classes.specs.Fields.{find_field}

@@ -2,16 +2,16 @@
 use Rattle.std.proofs.Common.{◌≡◌, ℕ, zero, suc, ◌<◌, ◌∙◌, List, [], refl, sym, ap, subst, inl, inr, arith}
 use Rattle.std.specs.Prelude.{true, ◌||◌, ◌⊎◌}
 use Rattle.std.specs.List.{Contains}
-use Rattle.std.proofs.lemmas.Bool.Decides.{nat_tests}
 use Rattle.je_core.specs.declared.types.Base.{Base}
 use Rattle.je_core.specs.declared.types.Base.TheVariants as base
 use Rattle.je_core.specs.declared.types.ClassId.{ClassId}
 use Rattle.je_core.specs.declared.types.Ty.{Ty}
 use Rattle.je_core.specs.Core.{CoreProgram}
 use Rattle.je_classes.specs.Hierarchy.{supers_of, same_class, is_below, Below, same, above, IsAcyclic, object_class}
-use Rattle.je_classes.specs.Subtypes.{class_type, null_type, array_of, is_reference_base, is_reference, Directly, to_super, to_object, from_null, of_arrays, Subtype, itself, through, kind_number, number_in_kind, same_base, is_object, is_null, is_base_below, are_components_below, are_below, is_subtype}
+use Rattle.je_classes.specs.Subtypes.{class_type, null_type, array_of, is_reference_base, is_reference, Directly, to_super, to_object, from_null, of_arrays, Subtype, itself, through, same_base, is_object, is_null, is_base_below, are_components_below, are_below, is_subtype}
 use Rattle.je_classes.specs.Laws.{SubtypesAreDecided}
 use Rattle.je_classes.proofs.Lists.{bool_cases}
+use Rattle.je_classes.proofs.Same.{same_base-refl, same_base-equal}
 use Rattle.je_classes.proofs.Below.{same_class-refl, same_class-equal, or_true, below-to, below-from, below-itself}
 
 abbrev type : Base → ℕ → Ty
@@ -40,37 +40,6 @@ object-is base.Char e = absurd cc
 object-is base.Int e = absurd cc
 object-is base.Long e = absurd cc
 object-is base.Void e = absurd cc
-
-abbrev base_of : ℕ → ℕ → Base
-base_of zero c = base.Bool
-base_of (suc zero) c = base.Byte
-base_of (suc (suc zero)) c = base.Short
-base_of (suc (suc (suc zero))) c = base.Char
-base_of (suc (suc (suc (suc zero)))) c = base.Int
-base_of (suc (suc (suc (suc (suc zero))))) c = base.Long
-base_of (suc (suc (suc (suc (suc (suc zero)))))) c = base.Null
-base_of (suc (suc (suc (suc (suc (suc (suc zero))))))) c = base.Void
-base_of (suc (suc (suc (suc (suc (suc (suc (suc n)))))))) c = base.Class (record { 0 = c })
-
-numbered : (b : Base) → base_of (kind_number b) (number_in_kind b) ≡ b
-numbered base.Bool = refl
-numbered base.Byte = refl
-numbered base.Short = refl
-numbered base.Char = refl
-numbered base.Int = refl
-numbered base.Long = refl
-numbered base.Null = refl
-numbered base.Void = refl
-numbered (base.Class c) = refl
-
-same_base-refl : (b : Base) → same_base b b ≡ true
-same_base-refl b = grind (arith, nat_tests)
-
-same_base-equal : (a b : Base) → same_base a b ≡ true → a ≡ b
-same_base-equal a b e =
-    let k : kind_number a ≡ kind_number b = grind (arith, nat_tests) in
-    let n : number_in_kind a ≡ number_in_kind b = grind (arith, nat_tests) in
-    sym (numbered a) ∙ ap (λ (m : ℕ). base_of m (number_in_kind a)) k ∙ ap (base_of (kind_number b)) n ∙ numbered b
 
 -- ---- the test is sound
 

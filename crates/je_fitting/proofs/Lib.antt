@@ -1,0 +1,3 @@
+mod Booleans
+mod Sound
+mod Complete

@@ -1,7 +1,8 @@
 -- When an expression fits where it stands: each part agrees with what takes it, and the node has its erased type. One
 -- constructor a form (JLS 15).
-use Rattle.std.specs.Prelude.{◌≡◌, ℕ, zero, suc, ◌+◌, ◌≤◌, Bool, true, false, not, ◌||◌, List, [], ◌∷◌, ◌++◌, map, length, Option, Some, None, slice_get, is_some}
+use Rattle.std.specs.Prelude.{◌≡◌, ℕ, zero, suc, ◌+◌, ◌≤◌, Bool, true, false, not, ◌||◌, List, [], ◌∷◌, ◌++◌, map, length, count_by, Option, Some, None, slice_get, is_some}
 use Rattle.std.specs.List.{All}
+use Rattle.std.specs.Str.{bytes_eq}
 use Rattle.je_base.specs.declared.span.Span.{Span}
 use Rattle.je_core.specs.declared.expr.BinOp.{BinOp}
 use Rattle.je_core.specs.declared.expr.UnOp.{UnOp}
@@ -71,10 +72,8 @@ abbrev pub are_there : CoreProgram → List Use → Type 0
 are_there program uses = All (λ (u : Use). is_some (field_at program u.class u.field) ≡ true) uses
 
 -- the units stand once among the program's texts
-pub record StandOnce (units : List ℕ) (texts : List (List ℕ)) : Type 0 where
-  pub place : ℕ
-  pub there : slice_get texts place ≡ Some units
-  pub once : (other : ℕ) → slice_get texts other ≡ Some units → other ≡ place
+abbrev pub StandOnce : List ℕ → List (List ℕ) → Type 0
+StandOnce units texts = count_by (λ t. bytes_eq t units) texts ≡ 1
 
 -- ---- what is handed over to the hidden fields of a new instance
 

@@ -5,3 +5,5 @@ pub mod Statements
 pub mod Members
 pub mod Classes
 pub mod Program
+pub mod Laws
+pub mod way
