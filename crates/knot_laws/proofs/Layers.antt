@@ -109,7 +109,7 @@ module _ (names texts : List (List ℕ)) (h : ℕ) (p : Below) (below : IsBelow 
   unfolding block_statement_over
   local_by ts e f = rw (e, f) refl
 
-  statement_by : (ts : List Token) → begins_local_class_at (length ts) ts ≡ false → (is_word word.Final ts || begins_local_at h ts) ≡ false → block_statement_over names texts h p ts ≡ statement_layer h p ts
+  pub statement_by : (ts : List Token) → begins_local_class_at (length ts) ts ≡ false → (is_word word.Final ts || begins_local_at h ts) ≡ false → block_statement_over names texts h p ts ≡ statement_layer h p ts
   unfolding block_statement_over
   statement_by ts e f = rw (e, f) refl
 

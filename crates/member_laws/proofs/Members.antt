@@ -84,9 +84,9 @@ module _ (names texts : List (List ℕ)) where
     spelled : SpellsMaybeBlock names texts x.0 x.1 ts x.2
     within : block_height_if x.0 ≤ most
 
-  record IsCall (most : ℕ) (ts : List Token) (x : ConstructorInvocation × List Token) : Type 0 where
-    spelled : SpellsConstructorInvocation names texts x.0 ts x.1
-    within : constructor_invocation_height x.0 ≤ most
+  pub record IsCall (most : ℕ) (ts : List Token) (x : ConstructorInvocation × List Token) : Type 0 where
+    pub spelled : SpellsConstructorInvocation names texts x.0 ts x.1
+    pub within : constructor_invocation_height x.0 ≤ most
 
   abbrev IsMember : ℕ → List Token → Member × List Token → Type 0
   IsMember most ts = IsRead (SpellsMember names texts) member_height any most ts
@@ -121,7 +121,7 @@ module _ (names texts : List (List ℕ)) where
         (λ es a. bind (behind symbol.Semicolon es.2) _ (Front (kind.Symbol symbol.Semicolon) es.2) (IsCall h ts) (behind_front (kind.Symbol symbol.Semicolon) es.2)
         (λ rest k. record { spelled = call_of f a.spelled k; within = a.within })))
 
-    call_sound : (ts : List Token) → IfSome (explicit_or_implicit_at texts names h p ts) (IsCall h ts)
+    pub call_sound : (ts : List Token) → IfSome (explicit_or_implicit_at texts names h p ts) (IsCall h ts)
     unfolding explicit_or_implicit_at
     call_sound ts =
         choose (with (call_word_at ts) (λ w. is_symbol symbol.OpenParen w.1) false) _ _ (λ o. IfSome o (IsCall h ts)) (λ _. first_call_sound ts) (λ _. record { spelled = no_call; within = omega arith })

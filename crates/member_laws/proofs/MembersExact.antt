@@ -107,7 +107,7 @@ method_seen h (method_head {ts = ts} {next} (typed_result d) i fs ns) low =
     }
 
 -- an identifier with no bracket behind it
-data Variable : List Token → Type 0 where
+pub data Variable : List Token → Type 0 where
   a_variable : {t : Token} {next : List Token} → IsIdentifier t → is_symbol symbol.OpenParen next ≡ false → Variable (t ∷ next)
 
 dims_then : {n : ℕ} {s e : Span} {ts rest : List Token} → SpellsDims n s e ts rest → is_symbol symbol.OpenParen rest ≡ false → is_symbol symbol.OpenParen ts ≡ false
@@ -115,12 +115,12 @@ dims_then no_dims e = e
 dims_then (more_dims it_is k d) e = refl
 
 -- a field, as what stands behind its first name says
-record IsField (h : ℕ) (ts : List Token) : Type 0 where
-  no_declared : begins_declared_at ts ≡ false
-  no_constructor : begins_constructor_at ts ≡ false
-  no_method : begins_method_at h ts ≡ false
+pub record IsField (h : ℕ) (ts : List Token) : Type 0 where
+  pub no_declared : begins_declared_at ts ≡ false
+  pub no_constructor : begins_constructor_at ts ≡ false
+  pub no_method : begins_method_at h ts ≡ false
 
-field_seen : (h : ℕ) {ty : TypeName} (ts : List Token) {last : List Token} → SpellsTypeName ty ts last → type_height ty ≤ h → Variable last → IsField h ts
+pub field_seen : (h : ℕ) {ty : TypeName} (ts : List Token) {last : List Token} → SpellsTypeName ty ts last → type_height ty ≤ h → Variable last → IsField h ts
 field_seen h ts d low (a_variable {next = next} i n) =
     let a = type_no_declared (type_begins d) in
     record { no_declared = a.0; no_constructor = type_no_constructor d i; no_method = method_begins_by h ts a.1 (past_type h ts next d i low) i ∙ n }
@@ -140,11 +140,11 @@ module _ (names texts : List (List ℕ)) where
   init_before_comma without_init it_is = refl
   init_before_comma (with_init it_is d) c = refl
 
-  variable_front : {vs : Variables} {c : Token} {ts rest : List Token} → SpellsVariables names texts vs ts (c ∷ rest) → IsSymbol symbol.Semicolon c → Variable ts
+  pub variable_front : {vs : Variables} {c : Token} {ts rest : List Token} → SpellsVariables names texts vs ts (c ∷ rest) → IsSymbol symbol.Semicolon c → Variable ts
   variable_front (last_variable i d e) c = a_variable i (dims_then d (init_before_semicolon e c))
   variable_front (more_variables i d e k vs) c = a_variable i (dims_then d (init_before_comma e k))
 
-  declares_seen : {ms : List Modifier} {s : Span} {d : Declaration} {ts rest : List Token} → Declares names texts ms s d ts rest → begins_declared_at ts ≡ true
+  pub declares_seen : {ms : List Modifier} {s : Span} {d : Declaration} {ts rest : List Token} → Declares names texts ms s d ts rest → begins_declared_at ts ≡ true
   declares_seen (declares_class (class_declaration it_is t ps e is b)) = refl
   declares_seen (declares_interface (interface_declaration it_is t ps es b)) = refl
   declares_seen (declares_enum (enum_declaration it_is t o cs k e c)) = refl
@@ -190,7 +190,7 @@ module _ (names texts : List (List ℕ)) where
   pub super_seen : {w : Token} (ts : List Token) → IsWord word.Super w → call_word_at (w ∷ ts) ≡ Some (true, ts)
   super_seen ts it_is = refl
 
-  semicolon_stops : {b : MaybeBlock} {c : Span} {ts rest : List Token} → SpellsMaybeBlock names texts b c ts rest → throws_on ts ≡ false
+  pub semicolon_stops : {b : MaybeBlock} {c : Span} {ts rest : List Token} → SpellsMaybeBlock names texts b c ts rest → throws_on ts ≡ false
   semicolon_stops (without_body it_is) = refl
   semicolon_stops (with_body it_is d) = refl
 

@@ -103,20 +103,20 @@ module _ (names texts : List (List ℕ)) (most : ℕ) where
 
   -- ---- turns of the loop
 
-  at_end : (n : ℕ) (x : Context) (was ts : List Token) → (has_bracket x && is_symbol symbol.CloseBrace ts) ≡ true → follow_at names texts most (suc n) x was ts ≡ was
+  pub at_end : (n : ℕ) (x : Context) (was ts : List Token) → (has_bracket x && is_symbol symbol.CloseBrace ts) ≡ true → follow_at names texts most (suc n) x was ts ≡ was
   unfolding follow_at
   at_end n x was ts e = rw e refl
 
-  reads_on : (n : ℕ) (x : Context) (was ts : List Token) {y : Context} {rest : List Token} → (has_bracket x && is_symbol symbol.CloseBrace ts) ≡ false → item_at names texts most x ts ≡ Some (y, rest) → follow_at names texts most (suc n) x was ts ≡ follow_at names texts most n y was rest
+  pub reads_on : (n : ℕ) (x : Context) (was ts : List Token) {y : Context} {rest : List Token} → (has_bracket x && is_symbol symbol.CloseBrace ts) ≡ false → item_at names texts most x ts ≡ Some (y, rest) → follow_at names texts most (suc n) x was ts ≡ follow_at names texts most n y was rest
   unfolding follow_at
   reads_on n x was ts e f = rw (e, f) refl
 
-  opens_on : (n : ℕ) (x : Context) (was ts : List Token) {y : Context} {inner : List Token} → (has_bracket x && is_symbol symbol.CloseBrace ts) ≡ false → item_at names texts most x ts ≡ None → opening_at names texts most x ts ≡ Some (y, inner) →
+  pub opens_on : (n : ℕ) (x : Context) (was ts : List Token) {y : Context} {inner : List Token} → (has_bracket x && is_symbol symbol.CloseBrace ts) ≡ false → item_at names texts most x ts ≡ None → opening_at names texts most x ts ≡ Some (y, inner) →
       follow_at names texts most (suc n) x was ts ≡ follow_at names texts most n y ts inner
   unfolding follow_at
   opens_on n x was ts e f g = rw (e, f, g) refl
 
-  stops_here : (n : ℕ) (x : Context) (was ts : List Token) → (has_bracket x && is_symbol symbol.CloseBrace ts) ≡ false → item_at names texts most x ts ≡ None → opening_at names texts most x ts ≡ None → follow_at names texts most (suc n) x was ts ≡ ts
+  pub stops_here : (n : ℕ) (x : Context) (was ts : List Token) → (has_bracket x && is_symbol symbol.CloseBrace ts) ≡ false → item_at names texts most x ts ≡ None → opening_at names texts most x ts ≡ None → follow_at names texts most (suc n) x was ts ≡ ts
   unfolding follow_at
   stops_here n x was ts e f g = rw (e, f, g) refl
 

@@ -33,6 +33,8 @@ use Rattle.unit_laws.proofs.Imports.{import_sound, imports_sound, imports_exact,
 
 abbrev pub begins_declaration : TokenKind → Bool
 begins_declaration (kind.Keyword word.Import) = false
+begins_declaration (kind.Keyword word.This) = false
+begins_declaration (kind.Keyword word.Super) = false
 begins_declaration (kind.Symbol symbol.Semicolon) = false
 begins_declaration (kind.Symbol symbol.CloseBrace) = false
 begins_declaration kind.End = false
@@ -48,7 +50,7 @@ modifier_begins modifier.Final = refl
 modifier_begins modifier.Abstract = refl
 modifier_begins modifier.Native = refl
 
-modifiers_begin : (names : List (List ℕ)) {ms : List Modifier} {ts mid : List Token} → SpellsModifiers names ms ts mid → first_is begins_declaration mid ≡ true → first_is begins_declaration ts ≡ true
+pub modifiers_begin : (names : List (List ℕ)) {ms : List Modifier} {ts mid : List Token} → SpellsModifiers names ms ts mid → first_is begins_declaration mid ≡ true → first_is begins_declaration ts ≡ true
 modifiers_begin names no_modifiers e = e
 modifiers_begin names (more_modifiers (override_modifier it_is _ _) _) e = refl
 modifiers_begin names (more_modifiers {mid = mid} (word_modifier {m} q w) _) e = rw (first_kind begins_declaration mid w) (subst (λ o. IfSome o (λ k. begins_declaration (kind.Keyword k) ≡ true)) q (modifier_begins m))

@@ -3,3 +3,4 @@ pub mod Expressions
 pub mod Statements
 pub mod Members
 pub mod Units
+pub mod Places
