@@ -10,7 +10,7 @@ use Rattle.parse_laws.specs.way.Tokens.{Read}
 use Rattle.parse_laws.specs.way.Readers.{IsRead, IsReader, Reads, itself, longer, reach, GoesOn, any, never}
 use Rattle.parse_laws.specs.way.Knot.{at, declaration_at}
 use Rattle.expression_laws.proofs.Begins.{lowest}
-use Rattle.knot_laws.specs.Laws.{ReadsLongest, SpellsOnce, BeginsOnce, IsLongestOnce}
+use Rattle.knot_laws.specs.Laws.{ReadsLongest, BeginsOnce, IsLongestOnce}
 use Rattle.knot_laws.proofs.Knots.{at_is_below, declaration_is_read}
 
 some_or : {A : Type 0} → A → Option A → A
@@ -52,7 +52,8 @@ module _ {T : Type 0} (spells : T → List Token → List Token → Type 0) (hei
   whole_by o t (itself q) = q
   whole_by o t (longer q lt g) = absurd (omega arith)
 
-  pub spells_once : (read : ℕ → List Token → Read T) → ((most : ℕ) → IsReader spells height_of asked goes_on most (read most)) → SpellsOnce spells
+  -- trees that spell all of the tokens are equal
+  pub spells_once : (read : ℕ → List Token → Read T) → ((most : ℕ) → IsReader spells height_of asked goes_on most (read most)) → (t u : T) (ts : List Token) → spells t ts [] → spells u ts [] → t ≡ u
   spells_once read r t u ts d e =
       let most = max (height_of t) (height_of u) in
       let a = whole_by (read most ts) t ((r most).exact t ts [] d (all t ts [] d) (omega arith)) in

@@ -1,6 +1,6 @@
 -- Laws of what is read of at most some height: it is the longest tree of the grammar that is spelled there. And laws of the
 -- grammar that follow from it: no two trees spell the same tokens.
-use Rattle.std.specs.Prelude.{◌≡◌, ℕ, ◌≤◌, List, [], Some, None, IfSome}
+use Rattle.std.specs.Prelude.{◌≡◌, ℕ, ◌≤◌, List, ◌++◌, Some, None, IfSome}
 use Rattle.je_token.specs.declared.token.Token.{Token}
 use Rattle.je_ast.specs.Height.{height, statement_height, member_height, declaration_height}
 use Rattle.je_grammar.specs.Grammar.{Spells, SpellsBlockStatement, SpellsMember, SpellsDeclaration}
@@ -31,9 +31,9 @@ LongestMembersAreRead = (names texts : List (List ℕ)) (most : ℕ) → ReadsLo
 abbrev pub LongestDeclarationsAreRead : Type 0
 LongestDeclarationsAreRead = (names texts : List (List ℕ)) (most : ℕ) → ReadsLongest (SpellsDeclaration names texts) declaration_height most (declaration_at names texts most)
 
--- Two trees that spell the same tokens are equal, with all their spans.
+-- Two trees that spell the same tokens are equal, with all their spans, whatever follows.
 abbrev pub SpellsOnce : {T : Type 0} → (T → List Token → List Token → Type 0) → Type 0
-SpellsOnce {T} spells = (t u : T) (ts : List Token) → spells t ts [] → spells u ts [] → t ≡ u
+SpellsOnce {T} spells = (t u : T) (front rest other : List Token) → spells t (front ++ rest) rest → spells u (front ++ other) other → t ≡ u
 
 -- The trees that begin at one place are one tree: where it ends is told by its own tokens.
 abbrev pub BeginsOnce : {T : Type 0} → (T → List Token → List Token → Type 0) → Type 0

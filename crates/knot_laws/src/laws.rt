@@ -19,7 +19,7 @@ pub fn longest_are_read()
     ensures declarations { LongestDeclarationsAreRead }
 {}
 
-/// Two trees that spell the same tokens are equal, spans included.
+/// Two trees that spell the same tokens are equal, spans included, whatever follows each.
 pub fn spells_once()
     ensures expressions { (names texts : List (List ℕ)) → SpellsOnce (Spells names texts) }
     ensures statements { (names texts : List (List ℕ)) →
