@@ -1,17 +1,17 @@
 -- Arithmetic gives no reference.
-use Rattle.std.specs.Prelude.{ℤ, pos, negsuc, zero, suc, Bool, true, false, Option, Some, None}
+use Rattle.std.specs.Prelude.{ℤ, pos, negsuc, zero, suc, Bool, Option, Some, None}
 use Rattle.std.specs.Int.{Width, w32, w64}
 use Rattle.je_core.specs.declared.expr.BinOp.{BinOp}
 use Rattle.je_core.specs.declared.expr.BinOp.TheVariants.{Mul, Div, Rem, Add, Sub, Shl, Shr, Ushr, Lt, Gt, Le, Ge, Eq, Ne, BitAnd, BitXor, BitOr}
 use Rattle.je_core.specs.declared.value.Value.{Value}
 use Rattle.je_core.specs.declared.value.Value.TheVariants as value
 use Rattle.je_arith.specs.declared.outcome.Outcome.{Outcome}
-use Rattle.je_arith.specs.declared.outcome.Outcome.TheVariants.{Gives, ByZero, Unfit}
+use Rattle.je_arith.specs.declared.outcome.Outcome.TheVariants.{Gives}
 use Rattle.je_core.specs.declared.expr.UnOp.{UnOp}
 use Rattle.je_core.specs.declared.expr.UnOp.TheVariants.{Minus, Not, Tilde}
 use Rattle.je_core.specs.declared.types.Base.{Base}
 use Rattle.je_core.specs.declared.types.Base.TheVariants as base
-use Rattle.je_arith.specs.Conversion.{as_base, as_base_if, converted, number_of}
+use Rattle.je_arith.specs.Conversion.{as_base, as_base_if, number_of}
 use Rattle.je_java.specs.Steps.{converted_in}
 use Rattle.std.specs.Prelude.{ℕ}
 use Rattle.je_arith.specs.Operators.{unary, unless_zero, on_numbers, shifted, on_truths, binary}

@@ -1,6 +1,5 @@
 -- The numbers of the classes that evaluation itself throws.
 use Rattle.std.proofs.Common.{◌≡◌, refl}
-use Rattle.je_core.specs.declared.types.ClassId.{ClassId}
 use Rattle.je_java.specs.Raised.{library_class, null_pointer, arithmetic}
 
 pub null_pointer_is : null_pointer ≡ record { 0 = 34 }

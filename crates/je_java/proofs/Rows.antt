@@ -1,10 +1,12 @@
 -- Worked rows: what some statements and calls come to, and what they cost.
 use Rattle.std.proofs.Common.{◌≡◌, ℕ, List, [], ◌∷◌, ◌++◌, replicate, Some, None, refl}
-use Rattle.std.specs.Prelude.{pos, negsuc, true, false, Bool}
+use Rattle.std.specs.Prelude.{pos, negsuc, true, false, Bool, Option}
 use Rattle.std.specs.Int.{int_wrap}
 use Rattle.je_core.specs.declared.object.Obj.{Obj}
 use Rattle.je_core.specs.declared.object.Obj.TheVariants.{Instance}
+use Rattle.je_base.specs.declared.span.NameId.{NameId}
 use Rattle.je_base.specs.declared.span.Span.{Span}
+use Rattle.je_core.specs.declared.types.ClassId.{ClassId}
 use Rattle.je_core.specs.declared.types.Ty.{Ty}
 use Rattle.je_core.specs.declared.types.Base.TheVariants.{Int as IntBase, Byte as ByteBase, Void as VoidBase, Class as ClassBase}
 use Rattle.je_core.specs.declared.value.Value.{Value}
@@ -15,7 +17,7 @@ use Rattle.je_core.specs.declared.program.Sort.TheVariants.{Class as ClassSort}
 use Rattle.je_core.specs.declared.program.Local.{Local as LocalOf}
 use Rattle.je_core.specs.declared.expr.BinOp.TheVariants.{Add, Sub, Div, Lt, Ne}
 use Rattle.je_core.specs.declared.expr.UnOp.TheVariants.{Minus, Tilde}
-use Rattle.je_core.specs.Core.{Core, CoreForm, Const, Local, This, Field, Assign, Unary, Binary, And, Or, Choose, Convert, CallVirtual, CallExact, New, CoreStmt, CoreStmtForm, Empty, Block, Do, If, Return, CoreField, CoreMethod, CoreClass, CoreProgram, node, stmt, cores, maybe_core, core_stmts, maybe_stmt}
+use Rattle.je_core.specs.Core.{Core, CoreForm, Const, Local, This, Field, Assign, Unary, Binary, And, Or, Choose, Convert, CallVirtual, CallExact, New, CoreStmt, CoreStmtForm, Empty, Block, Do, If, Loop, DoLoop, Labelled, Jump, Return, Throw, Try, CoreCatch, catch, core_catches, CoreField, CoreMethod, CoreClass, CoreProgram, node, stmt, cores, maybe_core, core_stmts, maybe_stmt}
 use Rattle.je_java.specs.declared.call.Receiver.TheVariants as receiver
 use Rattle.je_java.specs.Raised.{library_class, null_pointer, arithmetic}
 use Rattle.je_java.specs.World.{World}
@@ -289,3 +291,193 @@ byte = record { base = ByteBase; dims = 0 }
 narrows : run (method true byte [] (body (gives (node (Convert (constant (Int (pos 200)))) byte nowhere nowhere) ∷ [])) ∷ []) [] ≡ Done (Some (Byte (negsuc 55))) (after [] 999996 4)
 unfolding java meanings opened int_wrap
 narrows = refl
+
+-- loops: the node takes a unit once, a turn only what its condition, body and steps take
+
+abbrev zero_below : Core → Core
+zero_below e = expr (Binary Lt (constant (Int (pos 0))) e)
+
+abbrev below_three : Core → Core
+below_three e = expr (Binary Lt e (constant (Int (pos 3))))
+
+abbrev decreased : Core → Core
+decreased e = expr (Assign e (expr (Binary Sub e (constant (Int (pos 1))))))
+
+-- for (; 0 < n; n = n - 1) ; and the method that gives n after it
+abbrev counts_down : CoreStmt
+counts_down = statement (Loop (zero_below (local 0)) (decreased (local 0) ∷ []) (statement Empty))
+
+abbrev gives_n_after : List CoreStmt → CoreMethod
+gives_n_after parts = method true int (local_of int ∷ []) (body (parts ++ gives (local 0) ∷ []))
+
+-- the Block, the Loop, its condition's 3 nodes, Return and Local
+no_turn : run (gives_n_after (counts_down ∷ []) ∷ []) (Int (pos 0) ∷ []) ≡ Done (Some (Int (pos 0))) (after [] 999993 7)
+unfolding java meanings opened int_wrap
+no_turn = refl
+
+-- 8 more a turn: Empty, the step's 4 nodes and the condition's 3
+three_turns : run (gives_n_after (counts_down ∷ []) ∷ []) (Int (pos 3) ∷ []) ≡ Done (Some (Int (pos 0))) (after [] 999969 31)
+unfolding java meanings opened int_wrap
+three_turns = refl
+
+-- as many units as it takes, and one fewer
+enough_to_turn : call (program (gives_n_after (counts_down ∷ []) ∷ [])) 31 receiver.None (record { 0 = 0 }) 0 (Int (pos 3) ∷ []) (world []) nothing ≡ Done (Some (Int (pos 0))) (after [] 0 31)
+unfolding java meanings opened int_wrap
+enough_to_turn = refl
+
+too_few_to_turn : call (program (gives_n_after (counts_down ∷ []) ∷ [])) 28 receiver.None (record { 0 = 0 }) 0 (Int (pos 3) ∷ []) (world []) nothing ≡
+    Spent (record (after [] 0 28) { own = record { this = Null; locals = Int (pos 0) ∷ [] } })
+unfolding java meanings opened int_wrap
+too_few_to_turn = refl
+
+-- do n = n + 1; while (0 < n); on -1: its body runs before the condition is asked
+do_first : run (gives_n_after (statement (DoLoop counts (zero_below (local 0))) ∷ []) ∷ []) (Int (negsuc 0) ∷ []) ≡ Done (Some (Int (pos 0))) (after [] 999988 12)
+unfolding java meanings opened int_wrap
+do_first = refl
+
+abbrev forever : CoreStmt → CoreStmt
+forever s = statement (Loop (constant (Truth true)) [] s)
+
+abbrev breaks : Option NameId → CoreStmt
+breaks label = statement (Jump false label)
+
+abbrev continues : Option NameId → CoreStmt
+continues label = statement (Jump true label)
+
+abbrev label : ℕ → NameId
+label n = record { 0 = n }
+
+-- while (true) { n = n + 1; break; }
+breaks_out : run (gives_n_after (forever (body (counts ∷ breaks None ∷ [])) ∷ []) ∷ []) (Int (pos 1) ∷ []) ≡ Done (Some (Int (pos 2))) (after [] 999988 12)
+unfolding java meanings opened int_wrap
+breaks_out = refl
+
+-- a: { n = n + 1; break a; n = n + 1; }
+breaks_block : run (gives_n_after (statement (Labelled (label 0) (body (counts ∷ breaks (Some (label 0)) ∷ counts ∷ []))) ∷ []) ∷ []) (Int (pos 1) ∷ []) ≡ Done (Some (Int (pos 2))) (after [] 999989 11)
+unfolding java meanings opened int_wrap
+breaks_block = refl
+
+-- for (; n < 3; n = n + 1) { continue; n = n + 1; }: a `continue` runs the steps
+continue_steps : run (gives_n_after (statement (Loop (below_three (local 0)) (expr (Assign (local 0) (increased (local 0))) ∷ []) (body (continues None ∷ counts ∷ []))) ∷ []) ∷ []) (Int (pos 1) ∷ []) ≡
+    Done (Some (Int (pos 3))) (after [] 999975 25)
+unfolding java meanings opened int_wrap
+continue_steps = refl
+
+-- a: for (; n < 3; n = n + 1) { while (true) continue a; }: through the inner loop, to the steps of the outer one
+continue_outer : run (gives_n_after (statement (Labelled (label 0) (statement (Loop (below_three (local 0)) (expr (Assign (local 0) (increased (local 0))) ∷ []) (body (forever (continues (Some (label 0))) ∷ []))))) ∷ []) ∷ []) (Int (pos 1) ∷ []) ≡
+    Done (Some (Int (pos 3))) (after [] 999970 30)
+unfolding java meanings opened int_wrap
+continue_outer = refl
+
+-- a: b: while (n < 3) { n = n + 1; continue b; }, or `continue a`, or either in turn
+abbrev two_labels : CoreStmt → CoreMethod
+two_labels s = gives_n_after (statement (Labelled (label 0) (statement (Labelled (label 1) (statement (Loop (below_three (local 0)) [] (body (counts ∷ s ∷ []))))))) ∷ [])
+
+continue_inner_label : run (two_labels (continues (Some (label 1))) ∷ []) (Int (pos 1) ∷ []) ≡ Done (Some (Int (pos 3))) (after [] 999971 29)
+unfolding java meanings opened int_wrap
+continue_inner_label = refl
+
+continue_outer_label : run (two_labels (continues (Some (label 0))) ∷ []) (Int (pos 1) ∷ []) ≡ Done (Some (Int (pos 3))) (after [] 999971 29)
+unfolding java meanings opened int_wrap
+continue_outer_label = refl
+
+break_after_continue : run (two_labels (statement (If (expr (Binary Lt (local 0) (constant (Int (pos 2))))) (continues (Some (label 0))) (maybe_stmt (Some (breaks (Some (label 1))))))) ∷ []) (Int (pos 0) ∷ []) ≡
+    Done (Some (Int (pos 2))) (after [] 999966 34)
+unfolding java meanings opened int_wrap
+break_after_continue = refl
+
+-- no label of that name stands there
+stray_jump : run (gives_n_after (forever (breaks (Some (label 0))) ∷ []) ∷ []) (Int (pos 1) ∷ []) ≡ Wrong
+unfolding java meanings opened int_wrap
+stray_jump = refl
+
+-- exceptions: class 1 is E, class 2 is F, a subclass of it; local 1 is what a catch takes
+
+abbrev exception_class : Option ClassId → CoreClass
+exception_class superclass = record empty { methods = constructor ∷ []; superclass = superclass }
+
+abbrev class_number : ℕ → ClassId
+class_number n = record { 0 = n }
+
+abbrev with_exceptions : List CoreStmt → List CoreClass → CoreProgram
+with_exceptions parts more = record {
+  classes = class_of_methods (method true int (local_of int ∷ local_of class_a ∷ []) (body parts) ∷ [])
+      ∷ exception_class None ∷ exception_class (Some (class_number 1)) ∷ more;
+  texts = [];
+}
+
+abbrev tries : ℕ → List CoreStmt → List CoreClass → Answer
+tries units parts more = call (with_exceptions parts more) units receiver.None (record { 0 = 0 }) 0 (Int (pos 5) ∷ []) (world []) nothing
+
+-- new E(), new F(): New and its constructor's Block
+abbrev throws : ℕ → CoreStmt
+throws class = statement (Throw (expr (New (class_number class) 0 (cores []) [] nowhere)))
+
+abbrev caught_as : ℕ → CoreStmt → List CoreCatch
+caught_as class block = catch 1 (class_number class) nowhere block ∷ []
+
+abbrev try_to : List CoreStmt → List CoreCatch → Option CoreStmt → CoreStmt
+try_to parts catches last = statement (Try (body parts) (core_catches catches) (maybe_stmt last))
+
+abbrev gives_one : CoreStmt
+gives_one = gives (constant (Int (pos 1)))
+
+abbrev gives_two : CoreStmt
+gives_two = gives (constant (Int (pos 2)))
+
+-- try { throw new F(); } catch (E e) { return 1; }: Block, Try, Block, Throw and its 2 nodes, Block, Return and Const
+caught_above : tries 1000000 (try_to (throws 2 ∷ []) (caught_as 1 (body (gives_one ∷ []))) None ∷ []) [] ≡
+    Done (Some (Int (pos 1))) (after (Instance (class_number 2) [] ∷ []) 999991 9)
+unfolding java meanings opened
+caught_above = refl
+
+-- try { throw new E(); } catch (F e) { return 1; }
+not_caught_below : tries 1000000 (try_to (throws 1 ∷ []) (caught_as 2 (body (gives_one ∷ []))) None ∷ []) [] ≡
+    Thrown (record { 0 = 0 }) (after (Instance (class_number 1) [] ∷ []) 999994 6)
+unfolding java meanings opened
+not_caught_below = refl
+
+-- the first catch that takes it
+first_catch : tries 1000000 (try_to (throws 2 ∷ []) (caught_as 2 (body (gives_two ∷ [])) ++ caught_as 1 (body (gives_one ∷ []))) None ∷ []) [] ≡
+    Done (Some (Int (pos 2))) (after (Instance (class_number 2) [] ∷ []) 999991 9)
+unfolding java meanings opened
+first_catch = refl
+
+-- what is caught comes to the local: catch (E e) { throw e; }
+thrown_on : tries 1000000 (try_to (throws 1 ∷ []) (caught_as 1 (body (statement (Throw (local 1)) ∷ []))) None ∷ []) [] ≡
+    Thrown (record { 0 = 0 }) (after (Instance (class_number 1) [] ∷ []) 999991 9)
+unfolding java meanings opened
+thrown_on = refl
+
+-- throw null, in a program whose last class is NullPointerException
+throws_null : tries 1000000 (try_to (statement (Throw (constant Null)) ∷ []) (caught_as 34 (body (gives_one ∷ []))) None ∷ []) (replicate 32 empty) ≡
+    Done (Some (Int (pos 1))) (after (Instance (class_number 34) [] ∷ []) 999992 8)
+unfolding java meanings opened null_pointer library_class
+throws_null = refl
+
+-- try { return 1; } finally { return 2; }
+finally_overrides : tries 1000000 (try_to (gives_one ∷ []) [] (Some (body (gives_two ∷ []))) ∷ []) [] ≡ Done (Some (Int (pos 2))) (after [] 999992 8)
+unfolding java meanings opened
+finally_overrides = refl
+
+-- try { return n; } finally { n = n + 1; }: what is returned stays
+finally_keeps : tries 1000000 (try_to (gives (local 0) ∷ []) [] (Some (body (counts ∷ []))) ∷ []) [] ≡ Done (Some (Int (pos 5))) (after [] 999989 11)
+unfolding java meanings opened int_wrap
+finally_keeps = refl
+
+-- while (true) { try { break; } finally { n = n + 1; } } return n;
+finally_on_jump : tries 1000000 (forever (body (try_to (breaks None ∷ []) [] (Some (body (counts ∷ []))) ∷ [])) ∷ gives (local 0) ∷ []) [] ≡ Done (Some (Int (pos 6))) (after [] 999985 15)
+unfolding java meanings opened int_wrap
+finally_on_jump = refl
+
+-- try { throw new E(); } catch (E e) { throw new F(); } finally { n = n + 1; return n; }
+finally_after_catch : tries 1000000 (try_to (throws 1 ∷ []) (caught_as 1 (body (throws 2 ∷ []))) (Some (body (counts ∷ gives (local 0) ∷ []))) ∷ []) [] ≡
+    Done (Some (Int (pos 6))) (after (Instance (class_number 1) [] ∷ Instance (class_number 2) [] ∷ []) 999982 18)
+unfolding java meanings opened int_wrap
+finally_after_catch = refl
+
+-- the end of the units is no exception: try { while (true) ; } catch (E e) { return 1; } finally { return 2; }
+spent_is_not_caught : tries 41 (try_to (forever (statement Empty) ∷ []) (caught_as 1 (body (gives_one ∷ []))) (Some (body (gives_two ∷ []))) ∷ []) [] ≡
+    Spent (record (after [] 0 41) { own = record { this = Null; locals = Int (pos 5) ∷ Null ∷ [] } })
+unfolding java meanings opened
+spent_is_not_caught = refl

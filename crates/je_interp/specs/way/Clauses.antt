@@ -5,6 +5,7 @@ use Rattle.std.specs.declared.rc.Rc.{Rc}
 use Rattle.std.specs.declared.alloc.Global.{Global}
 use Rattle.je_core.specs.declared.value.ObjId.{ObjId}
 use Rattle.je_core.specs.declared.value.Value.{Value}
+use Rattle.je_core.specs.declared.value.Value.TheVariants.{Ref}
 use Rattle.je_core.specs.declared.types.ClassId.{ClassId}
 use Rattle.je_core.specs.declared.program.Program.{Program}
 use Rattle.je_core.specs.declared.expr.Expr.{Expr}
@@ -12,7 +13,7 @@ use Rattle.je_core.specs.declared.stmt.Stmt.{Stmt}
 use Rattle.je_core.specs.Core.{Core, CoreStmt, CoreProgram}
 use Rattle.je_core.specs.View.{view, stmt_view, program_view}
 use Rattle.je_heap.specs.Contents.{Contents}
-use Rattle.je_java.specs.Steps.{State, Outside, Own, Done, Spent, Wrong, Run, Exits, Computation, Nothing, with_own, make}
+use Rattle.je_java.specs.Steps.{State, Outside, Own, Done, Spent, Wrong, Run, Exits, Computation, Nothing, ◌>>◌, throw, put_local, with_own, make}
 use Rattle.je_java.specs.Meaning.{Meanings, java, ends, nobody}
 use Rattle.je_interp.specs.declared.frame.Frame.{Frame}
 use Rattle.je_interp.specs.declared.frame.Env.{Env}
@@ -44,6 +45,21 @@ BeginsValue old new f c = (p : CoreProgram) (m : Meanings) (k : Ways) (s : State
 
 abbrev pub BeginsEnd : List Frame → List Frame → ToEnd → Control → Type 0
 BeginsEnd old new f c = (p : CoreProgram) (m : Meanings) (k : Ways) (s : State) → resume p m k c new s ≡ ended (f p m) (waits p m k old) s
+
+-- the control goes on as that before the frames, in any state
+abbrev pub GoesAheadOf : List Frame → List Frame → Ahead → Control → Type 0
+GoesAheadOf old new f c = (p : CoreProgram) (m : Meanings) (k : Ways) (s : State) → resume p m k c new s ≡ f p m (waits p m k old) s
+
+-- the same before any frames
+abbrev pub IsAhead : Control → Ahead → Type 0
+IsAhead c f = (p : CoreProgram) (m : Meanings) (k : Ways) (fs : List Frame) (s : State) → resume p m k c fs s ≡ f p m (waits p m k fs) s
+
+-- what is done with an exception by the block of a catch, if one takes it
+abbrev pub handled_by : Meanings → Option (ℕ × Rc Stmt Global) → ObjId → Computation Nothing
+handled_by m None exception = throw exception
+handled_by m (Some (local, block)) exception = do
+  put_local local (Ref exception)
+  m.exec (stmt_view block.value)
 
 -- before any frames
 abbrev pub IsValue : Control → ToValue → Type 0
@@ -127,6 +143,24 @@ abbrev pub BeginsBody : Program → Context → Contents → Context → Stmt �
 BeginsBody program old heap new body own c = (k : Ways) (outside : Outside) →
     run_from program k c new.frames (state new heap outside) ≡
     ended ((java (program_view program)).exec (stmt_view body)) k (state_of old.units old.begun heap outside own)
+
+-- before the new frames the control is what comes to a statement's end before the old ones
+abbrev pub RunsOn : List Frame → List Frame → (Meanings → Computation Nothing) → Control → Type 0
+RunsOn old new f c = (p : CoreProgram) (k : Ways) (s : State) → resume p (java p) k c new s ≡ ended (f (java p)) (waits p (java p) k old) s
+
+-- the control goes on as that, where neither the program nor the heap is looked at
+abbrev pub RunsAhead : Context → Context → Ahead → Control → Type 0
+RunsAhead old new f c = (p : CoreProgram) (k : Ways) (heap : Contents) (outside : Outside) →
+    resume p (java p) k c new.frames (state new heap outside) ≡ f p (java p) (waits p (java p) k old.frames) (state old heap outside)
+
+-- the same before the frames alone, in any state
+abbrev pub RunsAheadOf : List Frame → List Frame → Ahead → Control → Type 0
+RunsAheadOf old new f c = (p : CoreProgram) (k : Ways) (s : State) → resume p (java p) k c new s ≡ f p (java p) (waits p (java p) k old) s
+
+-- the same before what is behind the first body
+abbrev pub RunsOut : Reply → Context → Context → Ahead → Control → Type 0
+RunsOut reply old new f c = (p : CoreProgram) (heap : Contents) (outside : Outside) →
+    resume p (java p) (outermost reply) c new.frames (state new heap outside) ≡ f p (java p) (waits p (java p) (outermost reply) old.frames) (state old heap outside)
 
 -- a number that falls with each move that goes on, where what came before gave so much
 abbrev pub FallsFrom : ℕ → Context → Context → Control → Type 0
