@@ -1,3 +1,4 @@
 mod Booleans
 mod Sound
 mod Complete
+mod Rows
