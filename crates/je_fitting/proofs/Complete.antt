@@ -23,7 +23,7 @@ module _ (p : CoreProgram) (b : Body) where
   same : (t : Ty) → same_type t t ≡ true
   same t = same_type-refl t
 
-  gives-type : (o : Option Ty) (t : Ty) → o ≡ Some t → gives_type o t ≡ true
+  pub gives-type : (o : Option Ty) (t : Ty) → o ≡ Some t → gives_type o t ≡ true
   gives-type None t e = absurd cc
   gives-type (Some s) t e = let q : s ≡ t = cc in subst (λ (u : Ty). same_type s u ≡ true) q (same s)
 

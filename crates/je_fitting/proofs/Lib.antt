@@ -1,4 +1,5 @@
 mod Booleans
 mod Sound
 mod Complete
+mod StatementsDecided
 mod Rows

@@ -27,7 +27,7 @@ use Rattle.je_fitting.proofs.Booleans.{two, three, four, five, seven, both, is_f
 module _ (p : CoreProgram) (b : Body) where
   -- ---- what the smaller tests say
 
-  gives-type : (o : Option Ty) (t : Ty) → gives_type o t ≡ true → o ≡ Some t
+  pub gives-type : (o : Option Ty) (t : Ty) → gives_type o t ≡ true → o ≡ Some t
   gives-type None t e = absurd cc
   gives-type (Some s) t e = ap (λ (u : Ty). Some u) (same_type-equal s t e)
 
