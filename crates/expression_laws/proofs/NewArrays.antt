@@ -34,10 +34,6 @@ use Rattle.expression_laws.proofs.Primaries.{MoreLengths, no_more, some_more, mo
 use Rattle.expression_laws.proofs.Inner.{not_front, items_of, same_items, length_exact}
 use Rattle.expression_laws.proofs.Atoms.{by_bracket, Primary, exactly, grabbed}
 
-none_of : {A : Type 0} (o : Option A) → is_some o ≡ false → o ≡ None
-none_of (Some x) e = absurd cc
-none_of None e = refl
-
 primitive_stands : (q : Primitive) {t : Token} (rest : List Token) → IsWord (primitive_word q) t → primitive_at (t ∷ rest) ≡ Some (q, rest)
 primitive_stands prim.Boolean rest it_is = refl
 primitive_stands prim.Byte rest it_is = refl

@@ -1,5 +1,5 @@
 -- One layer over what reads the height below right reads the next height right.
-use Rattle.std.proofs.Common.{◌≡◌, ℕ, suc, ◌<◌, ◌≤◌, Bool, true, false, List, length, Some, IfSome, refl, subst, ◌||◌}
+use Rattle.std.proofs.Common.{◌≡◌, ℕ, suc, ◌<◌, ◌≤◌, true, false, List, length, Some, IfSome, refl, subst, ◌||◌}
 use Rattle.je_token.specs.declared.keyword.Keyword.TheVariants as word
 use Rattle.je_token.specs.declared.token.Token.{Token}
 use Rattle.je_ast.specs.Trees.{Expression, Statement, Declaration, Members}
@@ -14,7 +14,7 @@ use Rattle.parse_laws.specs.way.Readers.{IsRead, IsReader, IsBelow, Reads, itsel
 use Rattle.parse_laws.specs.way.Statements.{variables_at, block_statements_at, block_layer, statement_layer, local_at}
 use Rattle.parse_laws.specs.way.Members.{class_body_at, member_layer, declaration_layer, local_class_at, begins_local_class_at}
 use Rattle.parse_laws.specs.way.Knot.{expression_over, initializer_over, block_statement_over, layer}
-use Rattle.parse_laws.proofs.Rules.{bind, choose, weaken}
+use Rattle.parse_laws.proofs.Rules.{bind, choose, weaken, unless}
 use Rattle.expression_laws.specs.way.Parts.{ReadBodies}
 use Rattle.expression_laws.proofs.Sound.{layer_sound}
 use Rattle.expression_laws.proofs.Exact.{layer_exact}
@@ -32,11 +32,6 @@ use Rattle.member_laws.proofs.MembersExact.{member_exact}
 use Rattle.member_laws.proofs.Declarations.{declaration_sound, declaration_exact}
 use Rattle.member_laws.proofs.LocalClasses.{local_class_seen, local_class_sound, local_class_exact}
 use Rattle.member_laws.proofs.LocalOnly.{only_local_class}
-
--- what isn't so where only local classes are
-unless : (b : Bool) → ¬ (b ≡ true) → b ≡ false
-unless true f = absurd (f refl)
-unless false f = refl
 
 module _ (names texts : List (List ℕ)) (h : ℕ) (p : Below) (below : IsBelow names texts h p) where
   bodies : ReadBodies names texts h (class_body_at texts names h p)

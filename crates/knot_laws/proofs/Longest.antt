@@ -1,11 +1,12 @@
 -- What is read right is the longest tree at its place, and the only one.
-use Rattle.std.proofs.Common.{◌≡◌, ℕ, ◌≤◌, max, List, [], length, Option, Some, None, IfSome, refl, sym, ap, ◌∙◌, arith}
+use Rattle.std.proofs.Common.{◌≡◌, ℕ, ◌≤◌, max, List, [], length, Some, None, IfSome, refl, sym, ap, ◌∙◌, arith}
 use Rattle.je_token.specs.declared.token.Token.{Token}
 use Rattle.je_ast.specs.Trees.{Expression}
 use Rattle.je_ast.specs.Height.{height, statement_height, member_height, declaration_height}
 use Rattle.je_grammar.specs.Operators.{level}
 use Rattle.je_grammar.specs.Grammar.{Spells, SpellsBlockStatement, SpellsMember, SpellsDeclaration}
 use Rattle.je_grammar.specs.Longest.{IsLongest}
+use Rattle.parse_laws.proofs.Rules.{same_some}
 use Rattle.parse_laws.specs.way.Tokens.{Read}
 use Rattle.parse_laws.specs.way.Readers.{IsRead, IsReader, Reads, itself, longer, reach, GoesOn, any, never}
 use Rattle.parse_laws.specs.way.Knot.{at, declaration_at}
@@ -13,15 +14,9 @@ use Rattle.expression_laws.proofs.Begins.{lowest}
 use Rattle.knot_laws.specs.Laws.{ReadsLongest, BeginsOnce, IsLongestOnce}
 use Rattle.knot_laws.proofs.Knots.{at_is_below, declaration_is_read}
 
-some_or : {A : Type 0} → A → Option A → A
-some_or a (Some b) = b
-some_or a None = a
-
 -- what is the same in an answer
-same_read : {T : Type 0} {t u : T} {rest other : List Token} → ◌≡◌ {A = Read T} (Some (t, rest)) (Some (u, other)) → (t ≡ u) × (rest ≡ other)
-unfolding some_or
-same_read {T} {t} {u} {rest} {other} e =
-    (ap (λ (o : Read T). (some_or (t, rest) o).0) e, ap (λ (o : Read T). (some_or (t, rest) o).1) e)
+pub same_read : {T : Type 0} {t u : T} {rest other : List Token} → ◌≡◌ {A = Read T} (Some (t, rest)) (Some (u, other)) → (t ≡ u) × (rest ≡ other)
+same_read e = let s = same_some e in (ap (λ x. x.0) s, ap (λ x. x.1) s)
 
 module _ {T : Type 0} (spells : T → List Token → List Token → Type 0) (height_of : T → ℕ) (asked : T → Type 0) (goes_on : T → List Token → Type 0) (all : (t : T) (ts rest : List Token) → spells t ts rest → asked t) where
   -- what is read leaves no more than another tree

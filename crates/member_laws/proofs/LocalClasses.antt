@@ -1,5 +1,5 @@
 -- Local classes: where one begins, and that it is read right.
-use Rattle.std.proofs.Common.{◌≡◌, ℕ, zero, suc, ◌≤◌, true, List, [], ◌∷◌, length, Option, Some, None, IfSome, refl, sym, ap, subst, arith}
+use Rattle.std.proofs.Common.{◌≡◌, ℕ, zero, suc, ◌≤◌, true, List, [], ◌∷◌, length, Some, IfSome, refl, sym, subst, arith}
 use Rattle.je_base.specs.declared.span.Span.{Span}
 use Rattle.je_token.specs.declared.keyword.Keyword.{Keyword}
 use Rattle.je_token.specs.declared.keyword.Keyword.TheVariants as word
@@ -19,7 +19,7 @@ use Rattle.parse_laws.specs.way.Types.{modifiers_at}
 use Rattle.parse_laws.specs.way.Below.{Below}
 use Rattle.parse_laws.specs.way.Readers.{IsBelow, IsRead, any}
 use Rattle.parse_laws.specs.way.Members.{begins_local_class_at, class_at, local_class_at}
-use Rattle.parse_laws.proofs.Rules.{either, choose, weaken}
+use Rattle.parse_laws.proofs.Rules.{either, choose, weaken, same_some}
 use Rattle.parse_laws.proofs.Fronts.{Front, front, behind_front}
 use Rattle.expression_laws.proofs.Primaries.{front_of}
 use Rattle.type_laws.proofs.Modifiers.{modifier_less}
@@ -36,14 +36,8 @@ pub record IsLocal (names : List (List ℕ)) (ts : List Token) : Type 0 where
   pub local : are_local modifiers ≡ true
   pub class : Front (kind.Keyword word.Class) mid rest
 
-some_or : Keyword → Option Keyword → Keyword
-some_or j (Some k) = k
-some_or j None = j
-
--- the word that a modifier is
 pub word_of : {j k : Keyword} {w : Token} → Some j ≡ Some k → IsWord k w → IsWord j w
-unfolding some_or
-word_of {j} {k} {w} e i = subst (λ l. IsWord l w) (ap (some_or j) (sym e)) i
+word_of {j} {k} {w} e i = subst (λ l. IsWord l w) (same_some (sym e)) i
 
 final_step : (n : ℕ) {w : Token} (ts : List Token) → IsWord word.Final w → begins_local_class_at (suc n) (w ∷ ts) ≡ begins_local_class_at n ts
 unfolding begins_local_class_at

@@ -1,5 +1,5 @@
 -- Rules for what holds of the answer of a reading, if there is one.
-use Rattle.std.proofs.Common.{◌≡◌, Bool, true, false, cond, Option, Some, None, IfSome, refl, ◌||◌}
+use Rattle.std.proofs.Common.{◌≡◌, Bool, true, false, cond, Option, Some, None, IfSome, refl, ap, ◌||◌}
 use Rattle.parse_laws.specs.way.Tokens.{◌>>=◌, with, is_some}
 
 pub bind : {A B : Type 0} (o : Option A) (f : A → Option B) (P : A → Type 0) (Q : B → Type 0) → IfSome o P → ((x : A) → P x → IfSome (f x) Q) → IfSome (o >>= f) Q
@@ -30,3 +30,21 @@ or_split false b e = (refl, e)
 pub is_none : {A : Type 0} (o : Option A) → is_some o ≡ false → o ≡ None
 is_none (Some x) e = absurd cc
 is_none None e = refl
+
+pub none_where : {A : Type 0} (o : Option A) (P : A → Type 0) → IfSome o P → ((x : A) → ¬ P x) → is_some o ≡ false
+none_where (Some x) P h f = absurd (f x h)
+none_where None P h f = refl
+
+-- what can't be true is false
+pub unless : (b : Bool) → ¬ (b ≡ true) → b ≡ false
+unless true f = absurd (f refl)
+unless false f = refl
+
+some_or : {A : Type 0} → A → Option A → A
+some_or a (Some b) = b
+some_or a None = a
+
+-- what is the same in two answers
+pub same_some : {A : Type 0} {a b : A} → Some a ≡ Some b → a ≡ b
+unfolding some_or
+same_some {A} {a} e = ap (some_or a) e

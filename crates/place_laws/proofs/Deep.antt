@@ -1,5 +1,5 @@
 -- An item whose braces nest deeper than the height can't be read.
-use Rattle.std.proofs.Common.{◌≡◌, ℕ, suc, ◌≤◌, true, false, List, ◌∷◌, length, Option, Some, None, IfSome, refl, sym, ap, ◌∙◌, subst, arith, ◌||◌}
+use Rattle.std.proofs.Common.{◌≡◌, ℕ, suc, ◌≤◌, true, false, List, ◌∷◌, length, Some, None, IfSome, refl, sym, ap, ◌∙◌, subst, arith, ◌||◌}
 use Rattle.je_base.specs.declared.span.Span.{Span}
 use Rattle.je_token.specs.declared.keyword.Keyword.TheVariants as word
 use Rattle.je_token.specs.declared.symbol.Symbol.TheVariants as symbol
@@ -15,7 +15,8 @@ use Rattle.je_grammar.specs.Types.{SpellsModifiers}
 use Rattle.je_grammar.specs.Grammar.{SpellsBlock, SpellsBody, is_body, SpellsConstructorInvocation, SpellsMaybeBlock, without_body, with_body, SpellsMember, is_type, is_field, is_method, is_constructor, is_initializer, is_static_initializer, is_class, is_interface, is_enum}
 use Rattle.je_grammar.specs.Place.{Context, HasDeclarations, before_imports_end, in_file, in_body, HasStatements, in_constructor, in_block, Opens, opens_class, opens_interface, opens_local_class, opens_method, opens_constructor, opens_initializer, opens_static_initializer, opens_block}
 use Rattle.je_grammar.specs.Place as context
-use Rattle.parse_laws.specs.way.Tokens.{Read, ◌>>=◌, behind, behind_word, is_word}
+use Rattle.place_laws.proofs.Heads.{brace_no_throws}
+use Rattle.parse_laws.specs.way.Tokens.{◌>>=◌, behind, behind_word, is_word}
 use Rattle.parse_laws.specs.way.Types.{modifiers_at, begins_local_at}
 use Rattle.parse_laws.specs.way.Below.{Below, BlockTree}
 use Rattle.parse_laws.specs.way.Readers.{IsBelow, IsRead, SpellsBlockTree, is_block_tree, block_tree_height, any}
@@ -25,7 +26,6 @@ use Rattle.parse_laws.specs.way.Knot.{block_statement_over, layer, at, declarati
 use Rattle.parse_laws.specs.way.Place.{nest, declared_item_at, member_item_at, statement_item_at, item_at}
 use Rattle.parse_laws.proofs.Rules.{bind, weaken}
 use Rattle.parse_laws.proofs.Fronts.{front}
-use Rattle.type_laws.specs.Laws.{throws_on}
 use Rattle.type_laws.specs.Heads.{class_head, interface_head, method_head, constructor_head}
 use Rattle.type_laws.proofs.Types.{name_front, type_begins}
 use Rattle.type_laws.proofs.Openings.{class_head_exact, interface_head_exact, method_head_exact, constructor_head_exact}
@@ -43,21 +43,9 @@ use Rattle.member_laws.proofs.MembersExact.{IsMethod, method_seen, field_seen, v
 use Rattle.expression_laws.specs.way.Parts.{IsBodyRead}
 use Rattle.knot_laws.proofs.Layers.{statement_by}
 use Rattle.knot_laws.proofs.Knots.{at_is_below}
-use Rattle.knot_laws.proofs.Longest.{members_longest}
+use Rattle.knot_laws.proofs.Longest.{members_longest, same_read}
 use Rattle.unit_laws.proofs.Files.{begins_declaration, modifiers_begin, no_import_word}
 use Rattle.place_laws.proofs.Nests.{then_closed, level-SpellsBlock, level-SpellsMembers, level-SpellsConstructorInvocation}
-
--- what is the same in an answer
-some_or : {A : Type 0} → A → Option A → A
-some_or a (Some b) = b
-some_or a None = a
-
-same_rest : {T : Type 0} {t u : T} {rest other : List Token} → ◌≡◌ {A = Read T} (Some (t, rest)) (Some (u, other)) → rest ≡ other
-unfolding some_or
-same_rest {T} {t} {u} {rest} {other} e = ap (λ (o : Read T). (some_or (t, rest) o).1) e
-
-brace_no_throws : {o : Token} (ts : List Token) → IsSymbol symbol.OpenBrace o → throws_on (o ∷ ts) ≡ false
-brace_no_throws ts it_is = refl
 
 module _ (names texts : List (List ℕ)) (h : ℕ) (p : Below) (below : IsBelow names texts h p) where
   -- braces behind this place nest no deeper than what is read below
@@ -99,13 +87,13 @@ module _ (names texts : List (List ℕ)) (h : ℕ) (p : Below) (below : IsBelow 
   class_is_shallow : (ms : List Modifier) (s : Span) {most : ℕ} {c : ClassHead} {o : Token} (ts inner : List Token) → h ≤ most → class_head_at most ts ≡ Some (c, o ∷ inner) → IfSome (class_at texts names h p ms s ts) (λ x. Shallow inner)
   unfolding class_at
   class_is_shallow ms s {most} {c} {o} ts inner le e =
-      bind (class_head_at h ts) _ (λ x. x.1 ≡ o ∷ inner) (λ x. Shallow inner) (weaken (class_head_at h ts) _ (λ x. x.1 ≡ o ∷ inner) (class_heads_sound_law h ts) (λ x g. same_rest (sym (class_head_exact most g.0 (let a = g.1 in omega arith)) ∙ e)))
+      bind (class_head_at h ts) _ (λ x. x.1 ≡ o ∷ inner) (λ x. Shallow inner) (weaken (class_head_at h ts) _ (λ x. x.1 ≡ o ∷ inner) (class_heads_sound_law h ts) (λ x g. (same_read (sym (class_head_exact most g.0 (let a = g.1 in omega arith)) ∙ e)).1))
       (λ x q. bind (class_body_at texts names h p x.1) _ (λ b. Shallow inner) (λ y. Shallow inner) (subst (λ us. IfSome (class_body_at texts names h p us) (λ b. Shallow inner)) (sym q) (body_is_shallow o inner)) (λ b g. g))
 
   interface_is_shallow : (ms : List Modifier) (s : Span) {most : ℕ} {c : InterfaceHead} {o : Token} (ts inner : List Token) → h ≤ most → interface_head_at most ts ≡ Some (c, o ∷ inner) → IfSome (interface_at texts names h p ms s ts) (λ x. Shallow inner)
   unfolding interface_at
   interface_is_shallow ms s {most} {c} {o} ts inner le e =
-      bind (interface_head_at h ts) _ (λ x. x.1 ≡ o ∷ inner) (λ x. Shallow inner) (weaken (interface_head_at h ts) _ (λ x. x.1 ≡ o ∷ inner) (interface_heads_sound_law h ts) (λ x g. same_rest (sym (interface_head_exact most g.0 (let a = g.1 in omega arith)) ∙ e)))
+      bind (interface_head_at h ts) _ (λ x. x.1 ≡ o ∷ inner) (λ x. Shallow inner) (weaken (interface_head_at h ts) _ (λ x. x.1 ≡ o ∷ inner) (interface_heads_sound_law h ts) (λ x g. (same_read (sym (interface_head_exact most g.0 (let a = g.1 in omega arith)) ∙ e)).1))
       (λ x q. bind (class_body_at texts names h p x.1) _ (λ b. Shallow inner) (λ y. Shallow inner) (subst (λ us. IfSome (class_body_at texts names h p us) (λ b. Shallow inner)) (sym q) (body_is_shallow o inner)) (λ b g. g))
 
   method_body_is_shallow : {o : Token} (inner : List Token) → IsSymbol symbol.OpenBrace o → IfSome (method_body_at texts names h p (o ∷ inner)) (λ x. Shallow inner)
@@ -273,7 +261,7 @@ module _ (names texts : List (List ℕ)) (h : ℕ) where
   method_there (is_method {mid = mid} {end = end} m r i fs ns b) low e n k f o =
       let q = same_second e (modifiers_before names m (result_begins r)) in
       let g = method_head_exact (suc h) (method_head r i fs ns) (omega arith) (semicolon_stops names texts b) in
-      body_there (same_rest (sym g ∙ sym (ap (method_head_at (suc h)) q) ∙ f)) o b (omega arith)
+      body_there ((same_read (sym g ∙ sym (ap (method_head_at (suc h)) q) ∙ f)).1) o b (omega arith)
   method_there (is_constructor {t = t} {next = next} m i fs ns x w b) low e n k f o =
       absurd (let a = ap begins_constructor_at (same_second e (modifiers_before names m (type_front (name_front i)))) in let s = (constructor_seen (constructor_head i fs ns x)).1 in let d = k.no_constructor in cc)
   method_there (is_initializer it_is d) low e n k f o = absurd cc
@@ -320,7 +308,7 @@ module _ (names texts : List (List ℕ)) (h : ℕ) where
       in_members ((nest inner).0 ≤ h) ts (member_stops (member_front.modifiers_begin names m (type_front (name_front i)))).1
       (rw (at_member ts, member_behind names texts h p below ts (no_initializer names m (type_front (name_front i))) q, as_constructor names texts h p below ms (first_span ts) (t ∷ next) s.0 s.1)
       (constructor_is_shallow names texts h p below ms (first_span ts) (t ∷ next) inner o
-      (weaken (constructor_head_at h (t ∷ next)) _ (λ x. x.1 ≡ _ ∷ inner) (constructor_heads_sound_law h (t ∷ next)) (λ x g. same_rest (sym (constructor_head_exact (suc h) g.0 (let a = g.1 in omega arith)) ∙ constructor_head_exact (suc h) k low)))))
+      (weaken (constructor_head_at h (t ∷ next)) _ (λ x. x.1 ≡ _ ∷ inner) (constructor_heads_sound_law h (t ∷ next)) (λ x g. (same_read (sym (constructor_head_exact (suc h) g.0 (let a = g.1 in omega arith)) ∙ constructor_head_exact (suc h) k low)).1))))
   shallow {ts = ts} {inner} (opens_initializer o) =
       in_members ((nest inner).0 ≤ h) ts (no_semicolon ts (brace_first inner o)) (rw (at_member ts) (initializer_is_shallow names texts h (at names texts h) (at_is_below names texts h) inner o))
   shallow {ts = ts} {inner} (opens_static_initializer w o) =

@@ -14,9 +14,8 @@ use Rattle.parse_laws.specs.way.Tokens.{◌>>=◌, with, behind, behind_word, is
 use Rattle.parse_laws.specs.way.Types.{modifiers_at}
 use Rattle.parse_laws.specs.way.Members.{ClassHead, InterfaceHead, MethodHead, ConstructorHead, class_head_at, interface_head_at, method_head_at, constructor_head_at, begins_declared_at, begins_constructor_at, begins_local_class_at, begins_initializer_at}
 use Rattle.parse_laws.specs.way.Place.{inside, type_opening_at, method_opening_at, member_opening_at, statement_opening_at, opening_at}
-use Rattle.parse_laws.proofs.Rules.{bind, either, choose, weaken, is_none}
+use Rattle.parse_laws.proofs.Rules.{bind, either, choose, weaken, is_none, none_where}
 use Rattle.parse_laws.proofs.Fronts.{Front, front, behind_front}
-use Rattle.statement_laws.proofs.Loops.{none_where}
 use Rattle.type_laws.specs.Laws.{throws_on}
 use Rattle.type_laws.specs.Heads.{SpellsClassHead, class_head, class_height, SpellsInterfaceHead, interface_head, interface_height, SpellsMethodHead, method_head, method_height, SpellsConstructorHead, constructor_head, constructor_height}
 use Rattle.type_laws.proofs.Types.{name_front}
@@ -57,7 +56,7 @@ word_stands ts it_is = refl
 interface_stands : {w : Token} (ts : List Token) → IsWord word.Interface w → (is_word word.Class (w ∷ ts) ≡ false)
 interface_stands ts it_is = refl
 
-brace_no_throws : {o : Token} (ts : List Token) → IsSymbol symbol.OpenBrace o → throws_on (o ∷ ts) ≡ false
+pub brace_no_throws : {o : Token} (ts : List Token) → IsSymbol symbol.OpenBrace o → throws_on (o ∷ ts) ≡ false
 brace_no_throws ts it_is = refl
 
 module _ (names texts : List (List ℕ)) (most : ℕ) where

@@ -19,13 +19,12 @@ use Rattle.parse_laws.specs.way.Expressions.{arguments_at}
 use Rattle.parse_laws.specs.way.Members.{call_word_at, class_body_at, first_call_at}
 use Rattle.parse_laws.specs.way.Knot.{at, declaration_at, import_at}
 use Rattle.parse_laws.specs.way.Place.{declared_item_at, member_item_at, statement_item_at, item_at}
-use Rattle.parse_laws.proofs.Rules.{bind, either, weaken, is_none}
+use Rattle.parse_laws.proofs.Rules.{bind, either, weaken, is_none, none_where}
 use Rattle.parse_laws.proofs.Fronts.{Front, front, behind_front}
 use Rattle.je_grammar.proofs.AtLeastOne.{statements_spell_some, members_spell_some, declarations_spell_some}
 use Rattle.je_grammar.proofs.Sizes.{size-SpellsName, size-SpellsArguments}
 use Rattle.expression_laws.proofs.Primaries.{GoodArguments, arguments_sound, front_of}
 use Rattle.statement_laws.proofs.Stops.{begins_item, no_front, item_first}
-use Rattle.statement_laws.proofs.Loops.{none_where}
 use Rattle.member_laws.proofs.TypesRead.{types_are_read}
 use Rattle.member_laws.proofs.Fronts.{member_stops, member_begins}
 use Rattle.member_laws.proofs.Members.{CallWord, call_word_sound, call_of, bodies}

@@ -1,5 +1,5 @@
 -- Loops with `for` are read where they are spelled; and where variables are declared.
-use Rattle.std.proofs.Common.{◌≡◌, ℕ, ◌≤◌, Bool, true, false, List, ◌∷◌, Option, Some, None, IfSome, refl, arith, ◌||◌}
+use Rattle.std.proofs.Common.{◌≡◌, ℕ, ◌≤◌, Bool, true, false, List, ◌∷◌, Some, None, refl, arith, ◌||◌}
 use Rattle.je_base.specs.declared.span.Span.{Span}
 use Rattle.je_token.specs.declared.keyword.Keyword.TheVariants as word
 use Rattle.je_token.specs.declared.symbol.Symbol.TheVariants as symbol
@@ -19,7 +19,7 @@ use Rattle.parse_laws.specs.way.Types.{final_at, type_at, past_type_at, begins_l
 use Rattle.parse_laws.specs.way.Below.{Below}
 use Rattle.parse_laws.specs.way.Readers.{IsBelow, Reads, GoesOn}
 use Rattle.parse_laws.specs.way.Statements.{label_before, is_for_each_at, variables_at, steps_before_at, start_locals_at, start_at, ended_condition_at, plain_for_at, for_each_at, for_at}
-use Rattle.parse_laws.proofs.Rules.{either}
+use Rattle.parse_laws.proofs.Rules.{either, none_where, unless}
 use Rattle.parse_laws.proofs.Fronts.{front_name}
 use Rattle.type_laws.specs.Laws.{Within, types_on}
 use Rattle.type_laws.specs.Ahead.{BeginsLocal, begins_local}
@@ -37,23 +37,15 @@ use Rattle.statement_laws.proofs.Exact.{through}
 abbrev pub NoLocal : List Token → Type 0
 NoLocal ts = (t : TypeName) (k : Token) (rest : List Token) → SpellsTypeName t ts (k ∷ rest) → ¬ IsIdentifier k
 
-false_unless : (b : Bool) → ¬ (b ≡ true) → b ≡ false
-false_unless true f = absurd (f refl)
-false_unless false f = refl
-
 no_begin : {h : ℕ} {ts : List Token} → NoLocal ts → ¬ BeginsLocal h ts
 no_begin without (begins_local d low i) = without _ _ _ d i
 
 pub no_local : (h : ℕ) (ts : List Token) → NoLocal ts → begins_local_at h ts ≡ false
-no_local h ts without = false_unless (begins_local_at h ts) (λ e. no_begin without (local_sound h ts e))
+no_local h ts without = unless (begins_local_at h ts) (λ e. no_begin without (local_sound h ts e))
 
 -- nor where the first token begins no type
 pub no_type_here : (ts : List Token) → first_is begins_type ts ≡ false → NoLocal ts
 no_type_here ts e t k rest d i = let a = type_first d in cc
-
-pub none_where : {A : Type 0} (o : Option A) (P : A → Type 0) → IfSome o P → ((x : A) → ¬ P x) → is_some o ≡ false
-none_where (Some x) P h f = absurd (f x h)
-none_where None P h f = refl
 
 no_label_behind : {t : TypeName} {ts rest : List Token} {x : Identifier × List Token} → NoLocal ts → SpellsTypeName t ts rest → ¬ FrontLabel rest x
 no_label_behind without d (front_label (front_name i) k) = without _ _ _ d i

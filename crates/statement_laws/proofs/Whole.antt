@@ -20,7 +20,7 @@ use Rattle.parse_laws.specs.way.Types.{begins_local_at}
 use Rattle.parse_laws.specs.way.Below.{Below}
 use Rattle.parse_laws.specs.way.Readers.{IsBelow, Reads, itself, GoesOn}
 use Rattle.parse_laws.specs.way.Statements.{label_before, labelled_at, expression_statement_at, statement_by, statement_layer}
-use Rattle.parse_laws.proofs.Rules.{is_none}
+use Rattle.parse_laws.proofs.Rules.{is_none, none_where}
 use Rattle.parse_laws.proofs.Fronts.{front, front_name}
 use Rattle.statement_laws.proofs.Stops.{begins_type, begins_expression, first_is, no_front, expression_first}
 use Rattle.statement_laws.proofs.Starts.{step_no_type, step_no_label, label_no_type}
@@ -28,7 +28,7 @@ use Rattle.statement_laws.proofs.Sound.{FrontLabel, front_label, label_before_so
 use Rattle.statement_laws.proofs.Blocks.{block_statements_exact}
 use Rattle.statement_laws.proofs.Groups.{groups_exact}
 use Rattle.statement_laws.proofs.Exact.{condition_exact, inner_block_exact, break_exact, continue_exact, return_exact, throw_exact, expression_statement_exact, switch_exact, labelled_exact, while_exact, do_exact, if_only_exact, if_else_exact}
-use Rattle.statement_laws.proofs.Loops.{NoLocal, none_where, no_type_here, neither, locals_begin, for_exact, for_each_exact}
+use Rattle.statement_laws.proofs.Loops.{NoLocal, no_type_here, neither, locals_begin, for_exact, for_each_exact}
 use Rattle.statement_laws.proofs.Tries.{try_exact, try_finally_exact}
 
 module _ (names texts : List (List ℕ)) where

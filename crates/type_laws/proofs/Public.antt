@@ -1,5 +1,5 @@
 -- The laws, as they are stated.
-use Rattle.std.proofs.Common.{◌≡◌, ℕ, ◌≤◌, max, inl, inr, Bool, true, false, ◌||◌, List, Option, Some, None, IfSome, option_map, sym, ap, ◌∙◌, subst, arith}
+use Rattle.std.proofs.Common.{◌≡◌, ℕ, ◌≤◌, max, inl, inr, Bool, true, false, ◌||◌, List, Some, None, IfSome, option_map, sym, ap, ◌∙◌, subst, arith}
 use Rattle.je_token.specs.declared.token.Token.{Token}
 use Rattle.je_token.specs.declared.keyword.Keyword.TheVariants as word
 use Rattle.je_token.specs.declared.symbol.Symbol.TheVariants as symbol
@@ -14,7 +14,7 @@ use Rattle.parse_laws.specs.way.Members.{class_head_at, interface_head_at, resul
 use Rattle.type_laws.specs.Laws.{Within, Sound, Exact, Complete, Longest, Unique, PassesSpelled, PassesEach, IsExact, IsAsLong, declared_height, SpellsPlainType, names_on, dims_on, references_on, types_on, plain_types_on, throws_on, extends_on, extends_all_on, implements_on, parameters_on, never}
 use Rattle.parse_laws.specs.way.Readers.{SpellsReference, is_reference}
 use Rattle.type_laws.specs.Heads.{SpellsClassHead, class_height, SpellsInterfaceHead, interface_height, SpellsMethodHead, method_height, SpellsConstructorHead, constructor_height}
-use Rattle.parse_laws.proofs.Rules.{weaken, or_split}
+use Rattle.parse_laws.proofs.Rules.{weaken, or_split, same_some}
 use Rattle.type_laws.proofs.Names.{name_sound, name_exact, name_complete}
 use Rattle.type_laws.proofs.Types.{Stops, IsType, type_sound, type_exact, type_complete, type_longest, IsReference, reference_sound, reference_exact, reference_longest, IsPlainType, plain_type_sound, plain_type_exact}
 use Rattle.type_laws.proofs.Heads.{throws_exact, StopsRefs, AreImplements, implements_sound, implements_exact, AreExtends, extends_all_sound, extends_all_exact, IsSuperclass, superclass_sound, superclass_exact, IsFormal, formal_sound, formal_exact, AreAllFormals, formals_sound, formals_exact, AreAllParameters, parameters_sound, parameters_exact}
@@ -22,15 +22,10 @@ use Rattle.type_laws.proofs.Openings.{IsClassHead, class_head_sound, class_head_
 
 -- ---- from one form to another
 
-some_or : {A : Type 0} → A → Option A → A
-some_or a (Some b) = b
-some_or a None = a
-
 -- what is read is one tree
 pub unique_of : {T : Type 0} (spells : T → List Token → List Token → Type 0) (goes_on : List Token → Bool) (read : List Token → Read T) → Complete spells goes_on read → Unique spells goes_on
-unfolding some_or
 unique_of {T} spells goes_on read complete t u ts rest a b stops =
-    ap (λ (o : Read T). (some_or (t, rest) o).0) (sym (complete t ts rest a stops) ∙ complete u ts rest b stops)
+    ap (λ (x : T × List Token). x.0) (same_some (sym (complete t ts rest a stops) ∙ complete u ts rest b stops))
 
 reads_of : {T : Type 0} {goes_on : Bool} {t : T} {rest : List Token} {o : Read T} → (x : T × List Token) × (o ≡ Some x) × IsExact goes_on t rest x → Reads o t rest (goes_on ≡ true)
 reads_of {T} {goes_on} {t} {rest} {o} r = go r.0 r.1 r.2

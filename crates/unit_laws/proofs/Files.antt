@@ -1,5 +1,5 @@
 -- Units are read where they are spelled.
-use Rattle.std.proofs.Common.{◌≡◌, ℕ, zero, suc, ◌<◌, ◌≤◌, max, Bool, true, false, List, [], ◌∷◌, ◌++◌, length, Option, Some, None, IfSome, refl, sym, ap, ◌∙◌, subst, arith, append_assoc}
+use Rattle.std.proofs.Common.{◌≡◌, ℕ, zero, suc, ◌≤◌, max, Bool, true, false, List, [], ◌∷◌, ◌++◌, length, Some, None, IfSome, refl, sym, ap, ◌∙◌, subst, arith, append_assoc}
 use Rattle.std.proofs.lemmas.List.{append-nil}
 use Rattle.je_base.specs.declared.span.Span.{Span}
 use Rattle.je_token.specs.declared.keyword.Keyword.TheVariants as word
@@ -16,10 +16,10 @@ use Rattle.je_ast.specs.Height.{declaration_height, unit_height}
 use Rattle.je_grammar.specs.Tokens.{Is, it_is, IsSymbol}
 use Rattle.je_grammar.specs.Types.{SpellsModifiers, no_modifiers, more_modifiers, override_modifier, word_modifier, modifier_word}
 use Rattle.je_grammar.specs.Grammar.{SpellsDeclaration, is_class, is_interface, is_enum, SpellsClass, class_declaration, SpellsInterface, interface_declaration, SpellsEnum, enum_declaration, SpellsDeclarations, no_declarations, semicolon_between, more_declarations, SpellsUnit, is_unit}
-use Rattle.parse_laws.specs.way.Tokens.{◌>>=◌, same, behind, behind_word}
-use Rattle.parse_laws.specs.way.Readers.{IsRead, Reads, itself, longer, any}
+use Rattle.parse_laws.specs.way.Tokens.{same, behind, behind_word}
+use Rattle.parse_laws.specs.way.Readers.{IsRead, itself, longer, any}
 use Rattle.parse_laws.specs.way.Knot.{declaration_at, import_at, imports_at, is_end, declarations_at, unit_at}
-use Rattle.parse_laws.proofs.Rules.{bind, either, choose, weaken}
+use Rattle.parse_laws.proofs.Rules.{bind, either, choose, weaken, unless, same_some}
 use Rattle.parse_laws.proofs.Tables.{same_true}
 use Rattle.parse_laws.proofs.Fronts.{Front, front, behind_front, is_of}
 use Rattle.je_grammar.proofs.AtLeastOne.{declarations_spell_some}
@@ -27,7 +27,7 @@ use Rattle.je_grammar.proofs.Sizes.{size-SpellsImports}
 use Rattle.statement_laws.proofs.Stops.{first_is, first_kind, no_front}
 use Rattle.knot_laws.proofs.Knots.{declaration_is_read}
 use Rattle.unit_laws.specs.Laws.{IsUnitRead}
-use Rattle.unit_laws.proofs.Imports.{import_sound, imports_sound, imports_exact, is_import}
+use Rattle.unit_laws.proofs.Imports.{imports_sound, imports_exact}
 
 -- ---- what a declaration begins with
 
@@ -54,10 +54,6 @@ pub modifiers_begin : (names : List (List ℕ)) {ms : List Modifier} {ts mid : L
 modifiers_begin names no_modifiers e = e
 modifiers_begin names (more_modifiers (override_modifier it_is _ _) _) e = refl
 modifiers_begin names (more_modifiers {mid = mid} (word_modifier {m} q w) _) e = rw (first_kind begins_declaration mid w) (subst (λ o. IfSome o (λ k. begins_declaration (kind.Keyword k) ≡ true)) q (modifier_begins m))
-
-unless : (b : Bool) → ¬ (b ≡ true) → b ≡ false
-unless true f = absurd (f refl)
-unless false f = refl
 
 is_the_end : (ts : List Token) → is_end ts ≡ true → (t : Token) × (ts ≡ t ∷ []) × Is kind.End t
 is_the_end [] e = absurd cc
@@ -201,12 +197,7 @@ module _ (names texts : List (List ℕ)) where
     pub unit_exact : {u : CompilationUnit} {ts : List Token} → SpellsUnit names texts u ts → unit_height u.declarations ≤ most → unit_at names texts most ts ≡ Some u
     unit_exact {ts = ts} (is_unit {mid = mid} i d t) low = unit_by ts mid (imports_exact names texts (length ts) [] i (no_import_first mid d t) (omega arith)) (declarations_exact (length ts) [] d t low (let a = size-SpellsImports names texts i in omega arith))
 
-some_or : {A : Type 0} → A → Option A → A
-some_or a (Some b) = b
-some_or a None = a
-
 pub unit_once : (names texts : List (List ℕ)) (u v : CompilationUnit) (ts : List Token) → SpellsUnit names texts u ts → SpellsUnit names texts v ts → u ≡ v
-unfolding some_or
 unit_once names texts u v ts d e =
     let most = max (unit_height u.declarations) (unit_height v.declarations) in
-    ap (some_or u) (sym (unit_exact names texts most d (omega arith)) ∙ unit_exact names texts most e (omega arith))
+    same_some (sym (unit_exact names texts most d (omega arith)) ∙ unit_exact names texts most e (omega arith))
