@@ -11,6 +11,7 @@ mod branches;
 mod declarators;
 mod making;
 mod shape;
+mod tries;
 
 pub use blocks::{block, block_statements};
 pub use declarators::{begins_local, variables};
