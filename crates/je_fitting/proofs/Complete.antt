@@ -35,11 +35,11 @@ module _ (p : CoreProgram) (b : Body) where
   a-field kind None f e g = absurd cc
   a-field kind (Some k) f e g = let q : k ≡ f = cc in subst (λ (z : CoreField). (is_static_as kind z.is_static && same_type z.ty f.ty) ≡ true) (sym q) (both (static-as kind f.is_static g) (same f.ty))
 
-  listed : {A : Type 0} (test : A → Bool) (xs : List A) → All (λ x. test x ≡ true) xs → list_all test xs ≡ true
+  pub listed : {A : Type 0} (test : A → Bool) (xs : List A) → All (λ x. test x ≡ true) xs → list_all test xs ≡ true
   listed test [] a = refl
   listed test (x ∷ xs) a = both (All-head (λ y. test y ≡ true) x xs a) (listed test xs (All-tail (λ y. test y ≡ true) x xs a))
 
-  same_class-refl : (c : ClassId) → same_class c c ≡ true
+  pub same_class-refl : (c : ClassId) → same_class c c ≡ true
   same_class-refl c = grind (arith, nat_tests)
 
   -- ---- places
@@ -119,7 +119,7 @@ module _ (p : CoreProgram) (b : Body) where
   an-exact received (Some n) m args e r s k a = let q : n ≡ m = cc in
       subst (λ (z : CoreMethod). is_exact p b received (Some z) args m.returns ≡ true) (sym q) (both (both (both (both r (is_not s)) (is_not k)) a) (same m.returns))
 
-  made-by : (o : Option CoreMethod) (m : CoreMethod) (args : List Ty) → o ≡ Some m → is_constructor p m ≡ true → all_agree p args m.params ≡ true → is_made_by p b o args ≡ true
+  pub made-by : (o : Option CoreMethod) (m : CoreMethod) (args : List Ty) → o ≡ Some m → is_constructor p m ≡ true → all_agree p args m.params ≡ true → is_made_by p b o args ≡ true
   made-by None m args e k a = absurd cc
   made-by (Some n) m args e k a = let q : n ≡ m = cc in subst (λ (z : CoreMethod). is_made_by p b (Some z) args ≡ true) (sym q) (both k a)
 
@@ -174,6 +174,6 @@ module _ (p : CoreProgram) (b : Body) where
     maybe_complete _ _ nothing = refl
     maybe_complete _ _ (something {o = o} q s) = both (complete o q) s
 
-    all_complete : (es : Cores) → AllFit p b es → are_fit p b es ≡ true
+    pub all_complete : (es : Cores) → AllFit p b es → are_fit p b es ≡ true
     all_complete _ no_more = refl
     all_complete _ (one_more {e = e} {es = es} q k) = both (complete e q) (all_complete es k)

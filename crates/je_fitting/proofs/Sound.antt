@@ -45,7 +45,7 @@ module _ (p : CoreProgram) (b : Body) where
   a-field kind None t e = absurd cc
   a-field kind (Some f) t e = let q = two e in record { f = f; there = refl; is_static = static-as kind f.is_static q.0; type = same_type-equal f.ty t q.1 }
 
-  all-of : {A : Type 0} (test : A → Bool) (xs : List A) → list_all test xs ≡ true → All (λ x. test x ≡ true) xs
+  pub all-of : {A : Type 0} (test : A → Bool) (xs : List A) → list_all test xs ≡ true → All (λ x. test x ≡ true) xs
   all-of test [] e = All-nil (λ x. test x ≡ true)
   all-of test (x ∷ xs) e = let q = two e in All-cons (λ y. test y ≡ true) x xs q.0 (all-of test xs q.1)
 
@@ -62,7 +62,7 @@ module _ (p : CoreProgram) (b : Body) where
   open-field c n None q e = absurd cc
   open-field c n (Some f) q e = (f, q, is_false e)
 
-  same_class-equal : (c d : ClassId) → same_class c d ≡ true → c ≡ d
+  pub same_class-equal : (c d : ClassId) → same_class c d ≡ true → c ≡ d
   same_class-equal c d e = grind (arith, nat_tests)
 
   place-sound : (form : CoreForm) → is_place p b form ≡ true → IsPlace p b form
@@ -161,7 +161,7 @@ module _ (p : CoreProgram) (b : Body) where
   an-exact received None args t e = absurd cc
   an-exact received (Some m) args t e = let q = five {a = received || m.flags.is_static} {b = not m.flags.is_abstract} {c = not (is_constructor p m)} e in record { m = m; there = refl; passes = both (both q.0 q.1) q.2; agree = q.3; type = same_type-equal m.returns t q.4 }
 
-  makes : (o : Option CoreMethod) (args : List Ty) → is_made_by p b o args ≡ true → (m : CoreMethod) × (o ≡ Some m) × (is_constructor p m ≡ true) × (all_agree p args m.params ≡ true)
+  pub makes : (o : Option CoreMethod) (args : List Ty) → is_made_by p b o args ≡ true → (m : CoreMethod) × (o ≡ Some m) × (is_constructor p m ≡ true) × (all_agree p args m.params ≡ true)
   makes None args e = absurd cc
   makes (Some m) args e = let q = two e in (m, refl, q.0, q.1)
 
@@ -240,6 +240,6 @@ module _ (p : CoreProgram) (b : Body) where
     maybe_sound c no_core e = nothing
     maybe_sound c (a_core o) e = let q = two e in something (sound o q.0) q.1
 
-    all_sound : (es : Cores) → are_fit p b es ≡ true → AllFit p b es
+    pub all_sound : (es : Cores) → are_fit p b es ≡ true → AllFit p b es
     all_sound none e = no_more
     all_sound (more e es) h = let q = two h in one_more (sound e q.0) (all_sound es q.1)

@@ -34,13 +34,13 @@ module _ (p : CoreProgram) (b : Body) where
   each-passes [] a = refl
   each-passes (x ∷ es) a = both (complete p b x (All-head (Fits p b) x es a)) (each-passes es (All-tail (Fits p b) x es a))
 
-  locals-sound : (ns : List ℕ) → locals_there p b ns ≡ true → LocalsThere p b ns
+  pub locals-sound : (ns : List ℕ) → locals_there p b ns ≡ true → LocalsThere p b ns
   locals-sound [] e = All-nil (λ n. n < length b.locals)
   locals-sound (n ∷ ns) e = let q = two e in
       let h : n < length b.locals = let g : nat_lt n (length b.locals) ≡ true = q.0 in grind (arith, nat_tests) in
       All-cons (λ n. n < length b.locals) n ns h (locals-sound ns q.1)
 
-  locals-complete : (ns : List ℕ) → LocalsThere p b ns → locals_there p b ns ≡ true
+  pub locals-complete : (ns : List ℕ) → LocalsThere p b ns → locals_there p b ns ≡ true
   locals-complete [] a = refl
   locals-complete (n ∷ ns) a =
       let h : n < length b.locals = All-head (λ n. n < length b.locals) n ns a in
@@ -106,7 +106,7 @@ module _ (p : CoreProgram) (b : Body) where
     form_sound j (core.Throw x) span at e = let q = two e in fits.throw (sound p b x q.0) q.1
     form_sound j (core.Try inner catches last) span at e = let q = three e in fits.try (statement_sound j inner q.0) (catches_sound j catches q.1) (maybe_sound j last q.2)
 
-    statements_sound : (j : Targets) (ss : CoreStmts) → are_statements_fit p b j ss ≡ true → StatementsFit p b j ss
+    pub statements_sound : (j : Targets) (ss : CoreStmts) → are_statements_fit p b j ss ≡ true → StatementsFit p b j ss
     statements_sound j no_stmts e = no_statements
     statements_sound j (more_stmts s ss) e = let q = two e in more_statements (statement_sound j s q.0) (statements_sound j ss q.1)
 
@@ -147,7 +147,7 @@ module _ (p : CoreProgram) (b : Body) where
     statement_complete _ _ (fits.throw {e = x} q k) = both (complete p b x q) k
     statement_complete j _ (fits.try {inner = inner} {catches = catches} {last = last} i cs l) = both (both (statement_complete j inner i) (catches_complete j catches cs)) (maybe_complete j last l)
 
-    statements_complete : (j : Targets) (ss : CoreStmts) → StatementsFit p b j ss → are_statements_fit p b j ss ≡ true
+    pub statements_complete : (j : Targets) (ss : CoreStmts) → StatementsFit p b j ss → are_statements_fit p b j ss ≡ true
     statements_complete _ _ no_statements = refl
     statements_complete j _ (more_statements {s = s} {ss = ss} q k) = both (statement_complete j s q) (statements_complete j ss k)
 

@@ -1,2 +1,5 @@
 pub mod Deciding
 pub mod DecidingStatements
+pub mod Quantifying
+pub mod DecidingMembers
+pub mod DecidingClasses
