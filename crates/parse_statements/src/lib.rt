@@ -9,6 +9,7 @@
 mod blocks;
 mod branches;
 mod declarators;
+mod jumps;
 mod making;
 mod shape;
 mod tries;

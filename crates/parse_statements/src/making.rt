@@ -154,3 +154,31 @@ pub fn each_loop(
         span,
     }))
 }
+
+/// A `throw`.
+pub fn throw(first: Span, value: Expr, span: Span) -> Stmt
+    ensures { statement_view result ≡ tree.throw first (view value) span }
+{
+    make_stmt(Stmt::Throw { first, value, span })
+}
+
+/// An empty statement.
+pub fn empty(span: Span) -> Stmt
+    ensures { statement_view result ≡ tree.empty span }
+{
+    make_stmt(Stmt::Empty { span })
+}
+
+/// A `break`.
+pub fn break_off(first: Span, label: Option<Identifier>, span: Span) -> Stmt
+    ensures { statement_view result ≡ tree.break first label span }
+{
+    make_stmt(Stmt::Break { first, label, span })
+}
+
+/// A `continue`.
+pub fn go_on(first: Span, label: Option<Identifier>, span: Span) -> Stmt
+    ensures { statement_view result ≡ tree.continue first label span }
+{
+    make_stmt(Stmt::Continue { first, label, span })
+}

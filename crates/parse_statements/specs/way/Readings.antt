@@ -1,11 +1,11 @@
 -- The reading functions over what reads the height below, in a setting.
-use Rattle.std.specs.Prelude.{ℕ, List}
+use Rattle.std.specs.Prelude.{ℕ, List, Option, Some, None}
 use Rattle.je_base.specs.declared.span.Span.{Span}
 use Rattle.je_token.specs.declared.symbol.Symbol.{Symbol}
 use Rattle.je_token.specs.declared.token.Token.{Token}
 use Rattle.je_ast.specs.declared.name.Identifier.{Identifier}
 use Rattle.je_ast.specs.Trees.{Expression, Expressions, MaybeExpression, Statement, Statements, ForInitializer, Variables, Groups, Labels, Catches}
-use Rattle.parse_laws.specs.way.Tokens.{Read, with}
+use Rattle.parse_laws.specs.way.Tokens.{Read, with, identifier_at}
 use Rattle.parse_laws.specs.way.Below.{BlockTree}
 use Rattle.parse_laws.specs.way.Lists.{VariableTree}
 use Rattle.parse_laws.specs.way.Expressions.{Closed}
@@ -122,3 +122,7 @@ local_at s ts = reading.local_at s.below (below_at s) ts
 -- a labelled statement, or an expression as a statement
 abbrev pub label_or_step_at : Setting → List Token → Read Statement
 label_or_step_at s ts = with (label_before ts) (λ x. labelled_at s x.0 x.1) (expression_statement_at s ts)
+
+-- [id]
+abbrev pub label_at : List Token → Option Identifier × List Token
+label_at ts = with (identifier_at ts) (λ x. (Some x.0, x.1)) (None, ts)
