@@ -6,3 +6,4 @@ mod Quantified
 mod MembersDecided
 mod ClassesDecided
 mod Rows
+mod ProgramRows
