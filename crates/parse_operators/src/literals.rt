@@ -5,7 +5,7 @@ ghost use Rattle.je_token.specs.declared.token.TokenKind.TheVariants as the_kind
 ghost use Rattle.je_ast.specs.View.{view};
 ghost use Rattle.parse_laws.specs.way.Expressions.{literal_kind, literal_at};
 ghost use Rattle.parse_types.specs.way.Views.{seen};
-ghost use Rattle.parse_operators.specs.way.Views.{HasHeights};
+ghost use Rattle.parse_below.specs.way.Views.{HasHeights};
 
 use je_ast::{Expr, Literal, make_expr};
 use je_base::{Memory, Units};
