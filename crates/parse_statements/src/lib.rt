@@ -12,6 +12,7 @@ mod declarators;
 mod jumps;
 mod making;
 mod shape;
+mod switches;
 mod tries;
 
 pub use blocks::{block, block_statements};
