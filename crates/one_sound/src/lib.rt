@@ -32,7 +32,9 @@ ghost use Rattle.one_sound.specs.Replies.{Replies};
 /// an object that is there, or none for a static method, the arguments are as many ints as the method has parameters, and
 /// the world has objects of the One alone.
 pub fn calls_reply()
-    ensures { (names all_names : List (List ℕ)) (one : OneTree) (program : CoreProgram) (number units : ℕ) (receiver : Receiver) (given : List Value) (world : World) (outside : Outside) →
+    ensures { (names all_names : List (List ℕ)) (one : OneTree) (program : CoreProgram)
+        (number units : ℕ) (receiver : Receiver) (given : List Value) (world : World)
+        (outside : Outside) →
         Fits names one → program_of all_names one ≡ Some program → CallFits (members_of one) number receiver given world.objects →
         Replies (call program units receiver one_class number given world outside) }
 {}
@@ -40,10 +42,12 @@ pub fn calls_reply()
 /// The call of a One's `main` ends with an int, or because its units are spent, whatever their number: it throws
 /// nothing, and meets no case that evaluation doesn't have. The core program may use more names than the One.
 pub fn never_wrong()
-    ensures replies { (names all_names : List (List ℕ)) (one : OneTree) (program : CoreProgram) (main units : ℕ) →
+    ensures replies { (names all_names : List (List ℕ)) (one : OneTree) (program : CoreProgram)
+        (main units : ℕ) →
         Fits names one → program_of all_names one ≡ Some program → IsMain names (members_of one) main →
         Replies (call program units receiver.None one_class main [] new_world no_outside) }
-    ensures not_wrong { (names all_names : List (List ℕ)) (one : OneTree) (program : CoreProgram) (main units : ℕ) →
+    ensures not_wrong { (names all_names : List (List ℕ)) (one : OneTree) (program : CoreProgram)
+        (main units : ℕ) →
         Fits names one → program_of all_names one ≡ Some program → IsMain names (members_of one) main →
         call program units receiver.None one_class main [] new_world no_outside ≢ Wrong }
 {}

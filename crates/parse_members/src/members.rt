@@ -86,7 +86,8 @@ pub fn member<
 // A type declaration as a member.
 fn as_member(found: Option<Found<Decl>>) -> Option<Found<Member>>
     ensures value { seen member_view result ≡ as_members (seen declaration_view found.entry) }
-    ensures height { (most : ℕ) → DeclarationHasHeight most found.entry → MemberHasHeight most result }
+    ensures height { (most : ℕ) → DeclarationHasHeight most found.entry
+        → MemberHasHeight most result }
 {
     let found = found?;
     Some(Found {

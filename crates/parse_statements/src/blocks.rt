@@ -54,7 +54,8 @@ pub fn block_statements<'a, B: Fn(&'a [Token]) -> Read<'a, Stmt>>(
 ) -> ReadClosed<'a, Stmt>
     requires callable { B.IsAlwaysCallable block_statement }
     requires reads { ReadsBlockStatements setting.now (B.post block_statement) }
-    ensures value { IfOk result (λ o. seen_statements o ≡ block_statements_at setting.now tokens.now) }
+    ensures value { IfOk result (λ o. seen_statements o
+        ≡ block_statements_at setting.now tokens.now) }
     ensures height { IfOk result (StatementsHaveHeights setting.now.below) }
 {
     let mut items = Vec::new(alloc);
