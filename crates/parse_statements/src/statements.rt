@@ -54,7 +54,8 @@ pub fn statement<
     requires block_callable { K.IsAlwaysCallable block }
     requires block_reads { ReadsBlocks setting.now (K.post block) }
     requires room { setting.now.below + 1 < 2 ^ 32 }
-    ensures value { IfOk result (λ o. seen statement_view o ≡ statement_layer setting.now tokens.now) }
+    ensures value { IfOk result (λ o. seen statement_view o
+        ≡ statement_layer setting.now tokens.now) }
     ensures height { IfOk result (StatementHasHeight (setting.now.below + 1)) }
 {
     let Some((token, rest)) = tokens.split_first() else {
@@ -128,7 +129,8 @@ fn inner_block<'a, B: Fn(&'a [Token]) -> Read<'a, Stmt>>(
     requires callable { B.IsAlwaysCallable block_statement.now }
     requires reads { ReadsBlockStatements setting.now (B.post block_statement.now) }
     requires room { setting.now.below + 1 < 2 ^ 32 }
-    ensures value { IfOk result (λ o. seen statement_view o ≡ inner_block_at setting.now tokens.now) }
+    ensures value { IfOk result (λ o. seen statement_view o
+        ≡ inner_block_at setting.now tokens.now) }
     ensures height { IfOk result (StatementHasHeight (setting.now.below + 1)) }
 {
     let Some(inside) = behind(tokens, Symbol::OpenBrace) else {
