@@ -214,33 +214,33 @@ module _ (p : CoreProgram) where
 
   -- ---- whole programs
 
-  part-sound : (class : ClassId) (c : CoreClass) → is_whole_fit p class c ≡ true → (part : Part) → IsPart c part → PartFits p class c part
-  part-sound class c e _ is_itself = let q = three {a = is_class_fit p class c} {b = list_all (is_field_fit p class) c.fields} {c = list_all (is_method_fit p class c) c.methods} e in itself_fits (class_sound class c q.0)
-  part-sound class c e _ (is_field {at = at} {f = f} there) = let q = three {a = is_class_fit p class c} {b = list_all (is_field_fit p class) c.fields} {c = list_all (is_method_fit p class c) c.methods} e in
+  pub part_sound : (class : ClassId) (c : CoreClass) → is_whole_fit p class c ≡ true → (part : Part) → IsPart c part → PartFits p class c part
+  part_sound class c e _ is_itself = let q = three {a = is_class_fit p class c} {b = list_all (is_field_fit p class) c.fields} {c = list_all (is_method_fit p class c) c.methods} e in itself_fits (class_sound class c q.0)
+  part_sound class c e _ (is_field {at = at} {f = f} there) = let q = three {a = is_class_fit p class c} {b = list_all (is_field_fit p class) c.fields} {c = list_all (is_method_fit p class c) c.methods} e in
       field_fits there (field_sound p class f (at-place (λ f. is_field_fit p class f ≡ true) c.fields at f (each-of (is_field_fit p class) (λ f. is_field_fit p class f ≡ true) (λ f h. h) c.fields q.1) there))
-  part-sound class c e _ (is_method {at = at} {m = m} there) = let q = three {a = is_class_fit p class c} {b = list_all (is_field_fit p class) c.fields} {c = list_all (is_method_fit p class c) c.methods} e in
+  part_sound class c e _ (is_method {at = at} {m = m} there) = let q = three {a = is_class_fit p class c} {b = list_all (is_field_fit p class) c.fields} {c = list_all (is_method_fit p class c) c.methods} e in
       method_fits there (method_sound p class c m (at-place (λ m. is_method_fit p class c m ≡ true) c.methods at m (each-of (is_method_fit p class c) (λ m. is_method_fit p class c m ≡ true) (λ m h. h) c.methods q.2) there))
 
-  itself-of : (class : ClassId) (c : CoreClass) → PartFits p class c itself → ClassFits p class c
-  itself-of class c (itself_fits k) = k
+  pub itself_of : (class : ClassId) (c : CoreClass) → PartFits p class c itself → ClassFits p class c
+  itself_of class c (itself_fits k) = k
 
-  field-of : (class : ClassId) (c : CoreClass) (at : ℕ) (f : CoreField) → slice_get c.fields at ≡ Some f → PartFits p class c (a_field at) → FieldFits p class f
-  field-of class c at f there (field_fits {f = g} q k) = let r : g ≡ f = cc in subst (FieldFits p class) r k
+  pub field_of : (class : ClassId) (c : CoreClass) (at : ℕ) (f : CoreField) → slice_get c.fields at ≡ Some f → PartFits p class c (a_field at) → FieldFits p class f
+  field_of class c at f there (field_fits {f = g} q k) = let r : g ≡ f = cc in subst (FieldFits p class) r k
 
-  method-of : (class : ClassId) (c : CoreClass) (at : ℕ) (m : CoreMethod) → slice_get c.methods at ≡ Some m → PartFits p class c (a_method at) → MethodFits p class c m
-  method-of class c at m there (method_fits {m = n} q k) = let r : n ≡ m = cc in subst (MethodFits p class c) r k
+  pub method_of : (class : ClassId) (c : CoreClass) (at : ℕ) (m : CoreMethod) → slice_get c.methods at ≡ Some m → PartFits p class c (a_method at) → MethodFits p class c m
+  method_of class c at m there (method_fits {m = n} q k) = let r : n ≡ m = cc in subst (MethodFits p class c) r k
 
-  whole-complete : (class : ClassId) (c : CoreClass) → FitsWhole p class c → is_whole_fit p class c ≡ true
-  whole-complete class c k = both (both (class_complete class c (itself-of class c (k.parts itself is_itself)))
-      (of-each (is_field_fit p class) (FieldFits p class) (λ f h. field_complete p class f h) c.fields (all-places (FieldFits p class) c.fields (λ i f there. field-of class c i f there (k.parts (a_field i) (is_field there))))))
-      (of-each (is_method_fit p class c) (MethodFits p class c) (λ m h. method_complete p class c m h) c.methods (all-places (MethodFits p class c) c.methods (λ i m there. method-of class c i m there (k.parts (a_method i) (is_method there)))))
+  pub whole_complete : (class : ClassId) (c : CoreClass) → FitsWhole p class c → is_whole_fit p class c ≡ true
+  whole_complete class c k = both (both (class_complete class c (itself_of class c (k.parts itself is_itself)))
+      (of-each (is_field_fit p class) (FieldFits p class) (λ f h. field_complete p class f h) c.fields (all-places (FieldFits p class) c.fields (λ i f there. field_of class c i f there (k.parts (a_field i) (is_field there))))))
+      (of-each (is_method_fit p class c) (MethodFits p class c) (λ m h. method_complete p class c m h) c.methods (all-places (MethodFits p class c) c.methods (λ i m there. method_of class c i m there (k.parts (a_method i) (is_method there)))))
 
   pub program_sound : is_program_fit p ≡ true → FitsProgram p
   program_sound e class c there = record {
-    parts = part-sound class c
+    parts = part_sound class c
         (on-there (is_whole_fit p class) (class_at p class) (each-place (λ n. if_there (is_whole_fit p (record { 0 = n })) (class_at p (record { 0 = n }))) (length p.classes) e class.0 (slice_get_within p.classes class.0 c there)) c there);
   }
 
   pub program_complete : FitsProgram p → is_program_fit p ≡ true
   program_complete f = places-pass (λ n. if_there (is_whole_fit p (record { 0 = n })) (class_at p (record { 0 = n }))) (length p.classes)
-      (λ n l. if-there (is_whole_fit p (record { 0 = n })) (class_at p (record { 0 = n })) (λ c there. whole-complete (record { 0 = n }) c (f (record { 0 = n }) c there)))
+      (λ n l. if-there (is_whole_fit p (record { 0 = n })) (class_at p (record { 0 = n })) (λ c there. whole_complete (record { 0 = n }) c (f (record { 0 = n }) c there)))

@@ -5,5 +5,6 @@ mod StatementsDecided
 mod Quantified
 mod MembersDecided
 mod ClassesDecided
+mod FirstMisfit
 mod Rows
 mod ProgramRows

@@ -3,3 +3,4 @@ pub mod DecidingStatements
 pub mod Quantifying
 pub mod DecidingMembers
 pub mod DecidingClasses
+pub mod Misfits

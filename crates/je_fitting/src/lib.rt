@@ -2,7 +2,7 @@
 //! Definitions, and the laws that tests of each node, member and class in turn decide it.
 #![tactic(auto)]
 
-ghost use Rattle.je_fitting.specs.Laws.{ExpressionsAreDecided, ProgramsAreDecided, StatementsAreDecided};
+ghost use Rattle.je_fitting.specs.Laws.{ExpressionsAreDecided, MisfitIsOne, MisfitsAreFound, NoMisfitFits, ProgramsAreDecided, StatementsAreDecided};
 
 /// An expression fits where it stands exactly where the test of its nodes passes.
 pub fn expressions_are_decided()
@@ -17,4 +17,12 @@ pub fn statements_are_decided()
 /// A program fits exactly where the tests of its classes and their members pass.
 pub fn programs_are_decided()
     ensures { ProgramsAreDecided }
+{}
+
+/// The first part whose test fails, by class number, the class itself before its fields and fields before methods, is the
+/// first that doesn't fit; where none fails, the program fits; and there is one first misfit.
+pub fn misfit_unique()
+    ensures found { MisfitsAreFound }
+    ensures none { NoMisfitFits }
+    ensures one { MisfitIsOne }
 {}
