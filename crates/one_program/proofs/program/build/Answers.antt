@@ -23,4 +23,4 @@ returns-clause-elaborates c =
     let are = subst (λ (m : Members). methods_of m one.members ≡ Some methods) c.in_ok-members.ensures are_trees in
     let names : c.deref-2.result.now ≡ fields_of one.members = c.deref-2.ensures.value ∙ ap (λ m. m.fields) c.members-2.view_is ∙ ap (λ (m : Members). m.fields) c.in_ok-members.ensures in
     let fields = c.in_ok-fields.ensures ∙ ap (λ (xs : List NameId). map int_field xs) names in
-    program-made c.one_class.new.names one (map field_view c.in_ok-fields.fields.items) methods (program_view c.in_ok-program.program) are fields c.in_ok-program.ensures.is
+    program-made c.make_class.new.names one (map field_view c.in_ok-fields.fields.items) methods (program_view c.in_ok-program.program) are fields c.in_ok-program.ensures.is
