@@ -1,13 +1,14 @@
 -- The function on a bounded number of steps and the closure.
-use Rattle.std.proofs.Common.{◌≡◌, ℕ, zero, suc, ◌<◌, ◌≤◌, length, refl, subst, arith}
+use Rattle.std.proofs.Common.{◌≡◌, ℕ, zero, suc, length, refl, subst, arith}
 use Rattle.std.specs.Prelude.{Bool, true, false, ◌||◌}
 use Rattle.std.specs.List.{list_any}
 use Rattle.std.proofs.lemmas.Bool.Decides.{nat_tests}
 use Rattle.je_core.specs.declared.types.ClassId.{ClassId}
 use Rattle.je_core.specs.Core.{CoreProgram}
-use Rattle.je_classes.specs.Hierarchy.{supers_of, same_class, below_within, is_below, Below, same, above, IsAcyclic}
+use Rattle.je_classes.specs.Hierarchy.{supers_of, same_class, below_within, is_below, Below, same, above}
 use Rattle.je_classes.specs.Laws.{BelowIsDecided}
-use Rattle.je_classes.proofs.Lists.{bool_cases, any-contains, contains-any}
+use Rattle.je_classes.proofs.Lists.{bool_cases, contains-any}
+use Rattle.je_classes.proofs.Paths.{below-within}
 
 pub same_class-refl : (c : ClassId) → same_class c c ≡ true
 same_class-refl c = grind (arith, nat_tests)
@@ -32,24 +33,17 @@ below-same : (s : CoreProgram) (n : ℕ) (c : ClassId) → below_within s n c c 
 below-same s zero c = same_class-refl c
 below-same s (suc n) c = rw (same_class-refl c) refl
 
-below-complete : (s : CoreProgram) (a : IsAcyclic s) (n : ℕ) {c d : ClassId} → Below s c d → a.depth c ≤ n → below_within s n c d ≡ true
-below-complete s a n (same {c = c}) h = below-same s n c
-below-complete s a zero (above {c = c} {d = d} {e = e} q r) h = absurd (let f : a.depth e < a.depth c = a.falls c e q in omega arith)
-below-complete s a (suc n) (above {c = c} {d = d} {e = e} q r) h =
-    or_true (same_class c d) _ (any-contains (λ k. below_within s n k d) (supers_of s c) e q
-    (below-complete s a n r (let f : a.depth e < a.depth c = a.falls c e q in omega arith)))
-
 pub below-to : (s : CoreProgram) (c d : ClassId) → is_below s c d ≡ true → Below s c d
 unfolding is_below
 below-to s c d e = below-sound s (length s.classes) c d e
 
-pub below-from : (s : CoreProgram) → IsAcyclic s → {c d : ClassId} → Below s c d → is_below s c d ≡ true
+pub below-from : (s : CoreProgram) {c d : ClassId} → Below s c d → is_below s c d ≡ true
 unfolding is_below
-below-from s a {c = c} r = below-complete s a (length s.classes) r (let w : a.depth c < length s.classes = a.within c in omega arith)
+below-from s {c = c} {d = d} r = below-within s c d r
 
 pub below-itself : (s : CoreProgram) (c : ClassId) → is_below s c c ≡ true
 unfolding is_below
 below-itself s c = below-same s (length s.classes) c
 
 pub below_decided : BelowIsDecided
-below_decided s c d a = (below-to s c d, λ r. below-from s a r)
+below_decided s c d = (below-to s c d, λ r. below-from s r)

@@ -1,5 +1,6 @@
 pub mod Lists
-mod Below
+mod Paths
+pub mod Below
 pub mod Same
 mod Subtyping
 mod Sets

@@ -7,7 +7,7 @@ use Rattle.je_core.specs.declared.types.Base.TheVariants as base
 use Rattle.je_core.specs.declared.types.ClassId.{ClassId}
 use Rattle.je_core.specs.declared.types.Ty.{Ty}
 use Rattle.je_core.specs.Core.{CoreProgram}
-use Rattle.je_classes.specs.Hierarchy.{supers_of, same_class, is_below, Below, same, above, IsAcyclic, object_class}
+use Rattle.je_classes.specs.Hierarchy.{supers_of, same_class, is_below, Below, same, above, object_class}
 use Rattle.je_classes.specs.Subtypes.{class_type, null_type, array_of, is_reference_base, is_reference, Directly, to_super, to_object, from_null, of_arrays, Subtype, itself, through, same_base, is_object, is_null, is_base_below, are_components_below, are_below, is_subtype}
 use Rattle.je_classes.specs.Laws.{SubtypesAreDecided}
 use Rattle.je_classes.proofs.Lists.{bool_cases}
@@ -114,7 +114,7 @@ sound p a zero b (suc n) e = null-sound p a b n e
 sound p a (suc m) b zero e = object-sound p a b m e
 sound p a (suc m) b (suc n) e = array-component (component-sound p a m b n e)
 
--- ---- and complete, where no class is above itself and Object has nothing above it
+-- ---- and complete, where Object has nothing above it
 
 nothing-above : (p : CoreProgram) → supers_of p object_class ≡ [] → {c d : ClassId} → Below p c d → c ≡ object_class → d ≡ object_class
 nothing-above p o same e = e
@@ -193,16 +193,16 @@ class-above p c base.Int e = absurd cc
 class-above p c base.Long e = absurd cc
 class-above p c base.Void e = absurd cc
 
-below-super : (p : CoreProgram) → IsAcyclic p → (c d k : ClassId) → Contains (supers_of p c) d → (same_class k object_class || is_below p d k) ≡ true → (same_class k object_class || is_below p c k) ≡ true
-below-super p a c d k q e = bool_cases (λ x. (x || is_below p d k) ≡ true → (x || is_below p c k) ≡ true) (same_class k object_class)
+below-super : (p : CoreProgram) (c d k : ClassId) → Contains (supers_of p c) d → (same_class k object_class || is_below p d k) ≡ true → (same_class k object_class || is_below p c k) ≡ true
+below-super p c d k q e = bool_cases (λ x. (x || is_below p d k) ≡ true → (x || is_below p c k) ≡ true) (same_class k object_class)
     (λ h g. refl)
-    (λ h g. below-from p a (above q (below-to p d k g))) e
+    (λ h g. below-from p (above q (below-to p d k g))) e
 
-super-closes : (p : CoreProgram) → IsAcyclic p → (c d : ClassId) → Contains (supers_of p c) d → (b : Base) (n : ℕ) → are_below p (base.Class d) 0 b n ≡ true → are_below p (base.Class c) 0 b n ≡ true
-super-closes p a c d q b (suc n) e = absurd cc
-super-closes p a c d q b zero e =
+super-closes : (p : CoreProgram) (c d : ClassId) → Contains (supers_of p c) d → (b : Base) (n : ℕ) → are_below p (base.Class d) 0 b n ≡ true → are_below p (base.Class c) 0 b n ≡ true
+super-closes p c d q b (suc n) e = absurd cc
+super-closes p c d q b zero e =
     let k = class-above p d b e in
-    subst (λ (x : Base). are_below p (base.Class c) 0 x 0 ≡ true) (sym k.is) (below-super p a c d k.class q k.above)
+    subst (λ (x : Base). are_below p (base.Class c) 0 x 0 ≡ true) (sym k.is) (below-super p c d k.class q k.above)
 
 object-closes : (p : CoreProgram) → supers_of p object_class ≡ [] → (a : Base) (m : ℕ) → is_reference (type a m) ≡ true → (b : Base) (n : ℕ) → are_below p (base.Class object_class) 0 b n ≡ true → are_below p a m b n ≡ true
 object-closes p o a m r b (suc n) e = absurd cc
@@ -234,17 +234,17 @@ below-components p s t b n closes r (inr e) =
     let below : are_below p s.base s.dims t.base t.dims ≡ true = closes t.base t.dims (reflexive p t.base t.dims r) in
     components-to p s.base s.dims b n (subst (λ (u : Ty). are_below p s.base s.dims u.base u.dims ≡ true) e below)
 
-closes : (p : CoreProgram) → IsAcyclic p → supers_of p object_class ≡ [] → {s t : Ty} → Directly p s t → (b : Base) (n : ℕ) → are_below p t.base t.dims b n ≡ true → are_below p s.base s.dims b n ≡ true
-closes p a o (to_super {c = c} {d = d} q) b n e = super-closes p a c d q b n e
-closes p a o (to_object {t = t} r) b n e = object-closes p o t.base t.dims r b n e
-closes p a o (from_null {t = t} r) b n e = above-bottom p b n (reference-above (sound p t.base t.dims b n e))
-closes p a o (of_arrays d) b zero e = e
-closes p a o (of_arrays {s = s} {t = t} d) b (suc n) e = below-components p s t b n (λ k i h. closes p a o d k i h) (reference-of d) (components-from p t.base t.dims b n e)
+closes : (p : CoreProgram) → supers_of p object_class ≡ [] → {s t : Ty} → Directly p s t → (b : Base) (n : ℕ) → are_below p t.base t.dims b n ≡ true → are_below p s.base s.dims b n ≡ true
+closes p o (to_super {c = c} {d = d} q) b n e = super-closes p c d q b n e
+closes p o (to_object {t = t} r) b n e = object-closes p o t.base t.dims r b n e
+closes p o (from_null {t = t} r) b n e = above-bottom p b n (reference-above (sound p t.base t.dims b n e))
+closes p o (of_arrays d) b zero e = e
+closes p o (of_arrays {s = s} {t = t} d) b (suc n) e = below-components p s t b n (λ k i h. closes p o d k i h) (reference-of d) (components-from p t.base t.dims b n e)
 
-complete : (p : CoreProgram) → IsAcyclic p → supers_of p object_class ≡ [] → {s t : Ty} → Subtype p s t → are_below p s.base s.dims t.base t.dims ≡ true
-complete p a o (itself {t = t} r) = reflexive p t.base t.dims r
-complete p a o (through {t = t} {u = u} d q) = closes p a o d u.base u.dims (complete p a o q)
+complete : (p : CoreProgram) → supers_of p object_class ≡ [] → {s t : Ty} → Subtype p s t → are_below p s.base s.dims t.base t.dims ≡ true
+complete p o (itself {t = t} r) = reflexive p t.base t.dims r
+complete p o (through {t = t} {u = u} d q) = closes p o d u.base u.dims (complete p o q)
 
 pub subtypes_decided : SubtypesAreDecided
 unfolding is_subtype
-subtypes_decided p s t a o = (sound p s.base s.dims t.base t.dims, complete p a o)
+subtypes_decided p s t o = (sound p s.base s.dims t.base t.dims, complete p o)

@@ -44,7 +44,8 @@ pub data Below (program : CoreProgram) : ClassId → ClassId → Type 0 where
   same : {c : ClassId} → Below program c c
   above : {c d e : ClassId} → Contains (supers_of program c) e → Below program e d → Below program c d
 
--- No class is above itself: each has a depth less than the number of classes, and each super has a smaller one.
+-- No class is above itself, and chains of supers stay within the program: each class has a depth less than the number of
+-- classes, and each super has a smaller one.
 pub record IsAcyclic (program : CoreProgram) : Type 0 where
   pub depth : ClassId → ℕ
   pub falls : (c d : ClassId) → Contains (supers_of program c) d → depth d < depth c

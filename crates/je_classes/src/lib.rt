@@ -11,17 +11,17 @@ pub fn below_is_decided()
     ensures { BelowIsDecided }
 {}
 
-/// A type is a subtype of another one exactly where a chain of direct subtypes leads there.
+/// Where nothing is above Object, a type is a subtype of another one exactly where a chain of direct subtypes leads there.
 pub fn subtypes_are_decided()
     ensures { SubtypesAreDecided }
 {}
 
-/// A field's name finds nothing, one or several in a class by the set of fields that the class has under it.
+/// Where no class is above itself, a field's name finds nothing, one or several in a class by the set of fields that the class has under it.
 pub fn fields_are_found()
     ensures { FieldsAreFound }
 {}
 
-/// A method's name and the types of arguments choose, in a class, among the methods that the class has and that accept
+/// Where no class is above itself, a method's name and the types of arguments choose, in a class, among the methods that the class has and that accept
 /// them: one of the most specific, or several, by the sets of these.
 pub fn methods_are_found()
     ensures { MethodsAreFound }

@@ -35,7 +35,7 @@ of-each : {A : Type 0} (test : A → Bool) (P : A → Type 0) → ((x : A) → P
 of-each test P f [] a = refl
 of-each test P f (x ∷ xs) a = both (f x (All-head P x xs a)) (of-each test P f xs (All-tail P x xs a))
 
-at-place : {A : Type 0} (P : A → Type 0) (xs : List A) (i : ℕ) (x : A) → All P xs → slice_get xs i ≡ Some x → P x
+pub at-place : {A : Type 0} (P : A → Type 0) (xs : List A) (i : ℕ) (x : A) → All P xs → slice_get xs i ≡ Some x → P x
 at-place P [] i x a e = absurd (let z : i < 0 = slice_get_within [] i x e in omega arith)
 at-place P (y ∷ ys) zero x a e = let q : y ≡ x = cc in subst P q (All-head P y ys a)
 at-place P (y ∷ ys) (suc i) x a e = at-place P ys i x (All-tail P y ys a) e

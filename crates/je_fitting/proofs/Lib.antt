@@ -6,5 +6,6 @@ mod Quantified
 mod MembersDecided
 mod ClassesDecided
 mod FirstMisfit
+mod Acyclic
 mod Rows
 mod ProgramRows

@@ -1,7 +1,8 @@
 -- What the tests decide.
-use Rattle.std.specs.Prelude.{◌≡◌, ◌↔◌, true, Some, None}
+use Rattle.std.specs.Prelude.{◌≡◌, ◌<◌, ◌↔◌, true, length, Some, None}
 use Rattle.je_core.specs.declared.types.ClassId.{ClassId}
 use Rattle.je_core.specs.Core.{Core, CoreStmt, CoreProgram}
+use Rattle.je_classes.specs.Hierarchy.{IsAcyclic}
 use Rattle.je_fitting.specs.Expressions.{Body, Fits}
 use Rattle.je_fitting.specs.Statements.{Targets, StatementFits}
 use Rattle.je_fitting.specs.Program.{Part, FitsProgram, IsFirstMisfit}
@@ -32,3 +33,7 @@ NoMisfitFits = (program : CoreProgram) → first_misfit program ≡ None → Fit
 abbrev pub MisfitIsOne : Type 0
 MisfitIsOne = (program : CoreProgram) (c d : ClassId) (a b : Part) →
     IsFirstMisfit program c a → IsFirstMisfit program d b → (c ≡ d) × (a ≡ b)
+
+-- In a program that fits and has a class, no class is above itself.
+abbrev pub FittingIsAcyclic : Type 0
+FittingIsAcyclic = (program : CoreProgram) → FitsProgram program → 0 < length program.classes → IsAcyclic program

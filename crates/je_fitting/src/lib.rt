@@ -2,7 +2,7 @@
 //! Definitions, and the laws that tests of each node, member and class in turn decide it.
 #![tactic(auto)]
 
-ghost use Rattle.je_fitting.specs.Laws.{ExpressionsAreDecided, MisfitIsOne, MisfitsAreFound, NoMisfitFits, ProgramsAreDecided, StatementsAreDecided};
+ghost use Rattle.je_fitting.specs.Laws.{ExpressionsAreDecided, FittingIsAcyclic, MisfitIsOne, MisfitsAreFound, NoMisfitFits, ProgramsAreDecided, StatementsAreDecided};
 
 /// An expression fits where it stands exactly where the test of its nodes passes.
 pub fn expressions_are_decided()
@@ -20,9 +20,15 @@ pub fn programs_are_decided()
 {}
 
 /// The first part whose test fails, by class number, the class itself before its fields and fields before methods, is the
-/// first that doesn't fit; where none fails, the program fits; and there is one first misfit.
-pub fn misfit_unique()
+/// first that doesn't fit; where none fails, the program fits; and there is at most one first misfit.
+pub fn misfits_are_found()
     ensures found { MisfitsAreFound }
     ensures none { NoMisfitFits }
     ensures one { MisfitIsOne }
 {}
+
+/// In a program that fits no class is above itself, so that the look-ups in it stand for what they are said to.
+pub fn fitting_is_acyclic()
+    ensures { FittingIsAcyclic }
+{
+}

@@ -1,7 +1,7 @@
 use Rattle.je_fitting.specs.way.Misfits.{first_misfit}
 use Rattle.je_fitting.proofs.FirstMisfit.{first, none_misfit, some_misfit, is_misfit}
 use Rattle.je_fitting.proofs.FirstMisfit as misfit
-use Rattle.je_fitting.proofs.misfit_unique.Goals as goal
+use Rattle.je_fitting.proofs.misfits_are_found.Goals as goal
 
 pub returns : goal.returns
 returns c = record {
