@@ -8,7 +8,7 @@ use Rattle.je_core.specs.declared.types.ClassId.{ClassId}
 use Rattle.je_core.specs.Core.{CoreProgram}
 use Rattle.je_classes.specs.Hierarchy.{supers_of, object_class, IsAcyclic}
 use Rattle.je_classes.specs.Members.{Member, Found, one, several, IsFound, is_nothing, is_one, are_several, found_in, In, first, further}
-use Rattle.je_classes.specs.Methods.{params_of, declared, is_top_interface, is_inherited, HasMethod, own_method, from_above, from_object, accepts, all_pass, IsCandidate, IsBest, is_concrete, has_result_of, Counts, stands_before, IsChosen, none_fits, none_best, the_concrete, more_concrete, the_first, none_counts, implicit, methods_within, methods_named, is_best, counts, earlier, first_of, first_unless, chosen_of, find_method, MethodsAreFound}
+use Rattle.je_classes.specs.Methods.{params_of, declared, is_top_interface, is_inherited, passes_on, HasMethod, own_method, from_above, from_object, accepts, all_pass, IsCandidate, IsBest, is_concrete, has_result_of, Counts, stands_before, IsChosen, none_fits, none_best, the_concrete, more_concrete, the_first, none_counts, implicit, methods_within, methods_named, is_best, counts, earlier, first_of, first_unless, chosen_of, find_method, MethodsAreFound}
 use Rattle.je_classes.proofs.Lists.{bool_cases}
 use Rattle.je_classes.proofs.Sets.{in-filter, filter-in, in-left, in-right, in-either, flat-above, above-flat, by_either, found-in, all-in, in-all}
 
@@ -29,20 +29,20 @@ in-implicit p x c m q = bool_cases (λ b. In (if b then declared p x object_clas
 listed : (p : CoreProgram) (n : ℕ) (x : NameId) (c : ClassId) (m : Member) → In (methods_within p n x c) m → HasMethod p x c m
 listed p zero x c m q = elim q [ ]
 listed p (suc n) x c m q = by_either (λ r. own_method r)
-    (λ r. let k = filter-in (is_inherited p x (declared p x c)) (flat_map (methods_within p n x) (supers_of p c) ++ implicit p x c) m r in
+    (λ r. let k = filter-in (is_inherited p x (declared p x c)) (flat_map (λ d. filter (passes_on p c d) (methods_within p n x d)) (supers_of p c) ++ implicit p x c) m r in
     by_either
-    (λ s. let a = flat-above (methods_within p n x) (supers_of p c) m s in from_above a.there (listed p n x a.class m a.has) k.passes)
+    (λ s. let a = flat-above (λ d. filter (passes_on p c d) (methods_within p n x d)) (supers_of p c) m s in let r = filter-in (passes_on p c a.class) (methods_within p n x a.class) m a.has in from_above a.there (listed p n x a.class m r.there) r.passes k.passes)
     (λ s. let i = in-implicit p x c m s in from_object i.top i.there k.passes)
-    (in-either (flat_map (methods_within p n x) (supers_of p c)) k.there))
+    (in-either (flat_map (λ d. filter (passes_on p c d) (methods_within p n x d)) (supers_of p c)) k.there))
     (in-either (declared p x c) q)
 
 lists : (p : CoreProgram) (a : IsAcyclic p) (n : ℕ) (x : NameId) {c : ClassId} {m : Member} → HasMethod p x c m → a.depth c < n → In (methods_within p n x c) m
 lists p a zero x q h = absurd (omega arith)
 lists p a (suc n) x (own_method q) h = in-left _ q
-lists p a (suc n) x {c = c} {m = m} (from_above {d = d} q r e) h = in-right (declared p x c) (in-filter (is_inherited p x (declared p x c))
-    (in-left (implicit p x c) (above-flat (methods_within p n x) (supers_of p c) m d q (lists p a n x r (let f : a.depth d < a.depth c = a.falls c d q in omega arith)))) e)
+lists p a (suc n) x {c = c} {m = m} (from_above {d = d} q r t e) h = in-right (declared p x c) (in-filter (is_inherited p x (declared p x c))
+    (in-left (implicit p x c) (above-flat (λ d. filter (passes_on p c d) (methods_within p n x d)) (supers_of p c) m d q (in-filter (passes_on p c d) (lists p a n x r (let f : a.depth d < a.depth c = a.falls c d q in omega arith)) t))) e)
 lists p a (suc n) x {c = c} {m = m} (from_object t q e) h = in-right (declared p x c) (in-filter (is_inherited p x (declared p x c))
-    (in-right (flat_map (methods_within p n x) (supers_of p c)) (implicit-in p x c m t q)) e)
+    (in-right (flat_map (λ d. filter (passes_on p c d) (methods_within p n x d)) (supers_of p c)) (implicit-in p x c m t q)) e)
 
 -- ---- the first of a list
 

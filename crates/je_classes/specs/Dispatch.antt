@@ -1,9 +1,11 @@
 -- The method that an object's class has for a method of a class (JLS 8.4.8, 15.12.4.4).
-use Rattle.std.specs.Prelude.{ℕ, zero, suc, List, [], ◌∷◌, length, Bool, not, ◌&&◌, ◌||◌, Option, Some, None, if◌then◌else◌}
+use Rattle.std.specs.Prelude.{ℕ, zero, suc, true, false, List, [], ◌∷◌, length, Bool, not, ◌&&◌, ◌||◌, Option, Some, None, if◌then◌else◌}
 use Rattle.je_core.specs.declared.program.Bridge.{Bridge}
+use Rattle.je_core.specs.declared.program.Sort.{Sort}
+use Rattle.je_core.specs.declared.program.Sort.TheVariants as sort
 use Rattle.je_core.specs.declared.types.ClassId.{ClassId}
 use Rattle.je_core.specs.Core.{CoreMethod, CoreClass, CoreProgram}
-use Rattle.je_classes.specs.Hierarchy.{class_at}
+use Rattle.je_classes.specs.Hierarchy.{class_at, object_class}
 use Rattle.je_classes.specs.Members.{Member, same_member, same_name, is_private, method_of}
 use Rattle.je_classes.specs.Subtypes.{same_types}
 
@@ -11,22 +13,35 @@ use Rattle.je_classes.specs.Subtypes.{same_types}
 abbrev pub same_signature : CoreMethod → CoreMethod → Bool
 same_signature m n = same_name m.name n.name && same_types m.params n.params
 
--- a method that can stand in place of one of its signature: it has a body or is the library's, and is an object's own
-abbrev pub is_concrete : CoreMethod → Bool
-is_concrete m = not (m.flags.is_static || m.flags.is_abstract || is_private m)
+-- a method that can override one of its signature
+abbrev pub is_own : CoreMethod → Bool
+is_own m = not (m.flags.is_static || is_private m)
 
--- the first of a class's methods that stands for one, by its place, counted from there on
-abbrev pub own_from : CoreMethod → ℕ → List CoreMethod → Option ℕ
+-- the first of a class's methods that overrides one, and its place, counted from there on
+abbrev pub own_from : CoreMethod → ℕ → List CoreMethod → Option (ℕ × CoreMethod)
 own_from m n [] = None
-own_from m n (k ∷ ks) = if is_concrete k && same_signature k m then Some n else own_from m (suc n) ks
+own_from m n (k ∷ ks) = if is_own k && same_signature k m then Some (n, k) else own_from m (suc n) ks
 
-abbrev pub placed : ClassId → Option ℕ → Option Member → Option Member
-placed class (Some at) higher = Some (record { class = class; at = at })
+-- an abstract method is no implementation
+abbrev pub unless_abstract : CoreMethod → Member → Option Member
+unless_abstract m at = if m.flags.is_abstract then None else Some at
+
+-- one that is abstract again hides what the classes above have (JLS 8.1.1.1, 8.4.3.1)
+abbrev pub placed : ClassId → Option (ℕ × CoreMethod) → Option Member → Option Member
+placed class (Some own) higher = unless_abstract own.1 (record { class = class; at = own.0 })
 placed class None higher = higher
+
+abbrev pub is_interface_class : Sort → Bool
+is_interface_class sort.Interface = true
+is_interface_class _ = false
+
+-- an interface has Object's methods (JLS 9.2)
+abbrev pub next_above : CoreClass → Option ClassId
+next_above c = if is_interface_class c.kind.sort then Some object_class else c.superclass
 
 abbrev pub own_or_above : (Option ClassId → Option Member) → CoreMethod → ClassId → Option CoreClass → Option Member
 own_or_above above m class None = None
-own_or_above above m class (Some c) = placed class (own_from m 0 c.methods) (above c.superclass)
+own_or_above above m class (Some c) = placed class (own_from m 0 c.methods) (above (next_above c))
 
 -- the class's own one, else that of the nearest class above it, among so many classes at most
 abbrev pub implemented_upwards : CoreProgram → ℕ → CoreMethod → Option ClassId → Option Member
@@ -50,7 +65,7 @@ bridged (Some class) m = bridged_in class.bridges m
 -- a private method is no object's but its class's (JLS 8.4.8)
 abbrev pub implemented_or_private : CoreProgram → ClassId → Member → Option CoreMethod → Option Member
 implemented_or_private program class at None = None
-implemented_or_private program class at (Some m) = if is_private m then Some at else implemented program class m
+implemented_or_private program class at (Some m) = if is_private m then unless_abstract m at else implemented program class m
 
 abbrev pub bridged_or : Option Member → Option Member → Option Member
 bridged_or (Some by) otherwise = Some by

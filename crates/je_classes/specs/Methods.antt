@@ -50,10 +50,21 @@ abbrev pub is_inherited : CoreProgram → NameId → List Member → Member → 
 is_inherited program name nearer m =
     not (names_constructors program name || is_private_in (method_of program m) || list_any (λ n. same_types (params_of program n) (params_of program m)) nearer)
 
+abbrev pub is_interface_in : Option CoreClass → Bool
+is_interface_in None = false
+is_interface_in (Some class) = is_interface_sort class.kind.sort
+
+abbrev pub is_interface : CoreProgram → ClassId → Bool
+is_interface program c = is_interface_in (class_at program c)
+
+-- what an interface has of Object's methods a class has from its superclass (JLS 8.4.8)
+abbrev pub passes_on : CoreProgram → ClassId → ClassId → Member → Bool
+passes_on program c d m = is_interface program c || not (is_interface program d && same_class m.class object_class)
+
 -- A class has the methods that it declares, and those of its supers that it inherits.
 pub data HasMethod (program : CoreProgram) (name : NameId) : ClassId → Member → Type 0 where
   own_method : {c : ClassId} {m : Member} → In (declared program name c) m → HasMethod program name c m
-  from_above : {c d : ClassId} {m : Member} → Contains (supers_of program c) d → HasMethod program name d m →
+  from_above : {c d : ClassId} {m : Member} → Contains (supers_of program c) d → HasMethod program name d m → passes_on program c d m ≡ true →
       is_inherited program name (declared program name c) m ≡ true → HasMethod program name c m
   from_object : {c : ClassId} {m : Member} → is_top_interface program c ≡ true → In (declared program name object_class) m →
       is_inherited program name (declared program name c) m ≡ true → HasMethod program name c m
@@ -137,7 +148,7 @@ with_inherited program name nearer farther = nearer ++ filter (is_inherited prog
 
 abbrev pub methods_within : CoreProgram → ℕ → NameId → ClassId → List Member
 methods_within program zero name c = []
-methods_within program (suc n) name c = with_inherited program name (declared program name c) (flat_map (methods_within program n name) (supers_of program c) ++ implicit program name c)
+methods_within program (suc n) name c = with_inherited program name (declared program name c) (flat_map (λ d. filter (passes_on program c d) (methods_within program n name d)) (supers_of program c) ++ implicit program name c)
 
 unfoldable pub methods_named : CoreProgram → ClassId → NameId → List Member
 methods_named program c name = methods_within program (length program.classes) name c

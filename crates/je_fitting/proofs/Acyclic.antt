@@ -1,6 +1,6 @@
 -- In a program that fits no class is above itself: how many classes are above one falls with each super.
-use Rattle.std.proofs.Common.{◌≡◌, ℕ, zero, suc, ◌+◌, ◌<◌, ◌≤◌, List, [], ◌∷◌, length, get_or, Some, None, refl, sym, ap, subst, arith}
-use Rattle.std.specs.Prelude.{Bool, true, false, not, ◌&&◌, Option, is_some, slice_get, nat_eq, if◌then◌else◌}
+use Rattle.std.proofs.Common.{◌≡◌, ℕ, zero, suc, ◌+◌, ◌<◌, ◌≤◌, List, [], ◌∷◌, length, get_or, Some, None, refl, sym, subst, arith}
+use Rattle.std.specs.Prelude.{Bool, true, false, not, ◌&&◌, Option, is_some, slice_get, nat_eq}
 use Rattle.std.specs.List.{All, Contains}
 use Rattle.std.proofs.lemmas.Bool.Decides.{nat_tests}
 use Rattle.std.proofs.lemmas.List.Elements.{All-nil, All-cons, All-head, All-tail}
@@ -11,8 +11,8 @@ use Rattle.je_classes.specs.Hierarchy.{class_at, with_superclass, supers_in, sup
 use Rattle.je_classes.proofs.Lists.{bool_cases}
 use Rattle.je_classes.proofs.Below.{below-to, below-from, below-itself}
 use Rattle.je_fitting.specs.Classes.{can_be_extended, is_interface, SuperclassFits, none_above, one_above, ClassFits}
-use Rattle.je_fitting.specs.Program.{PartFits, itself, itself_fits, is_itself, FitsProgram}
-use Rattle.je_fitting.proofs.Booleans.{two, both, is_false, is_not}
+use Rattle.je_fitting.specs.Program.{itself, is_itself, FitsProgram}
+use Rattle.je_fitting.proofs.Booleans.{two, both, is_false}
 use Rattle.je_fitting.proofs.ClassesDecided.{itself_of, at-place}
 
 -- ---- how many numbers below a bound pass a test

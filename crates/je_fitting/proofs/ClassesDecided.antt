@@ -1,5 +1,5 @@
 -- The tests of a class itself, and of a program, decide whether they fit.
-use Rattle.std.proofs.Common.{◌≡◌, ℕ, zero, suc, ◌<◌, ◌+◌, List, [], ◌∷◌, take, length, Some, None, refl, sym, ap, ◌∙◌, subst, arith}
+use Rattle.std.proofs.Common.{◌≡◌, ℕ, zero, suc, ◌<◌, ◌+◌, List, [], ◌∷◌, take, drop, length, Some, None, refl, sym, ap, ◌∙◌, subst, arith}
 use Rattle.std.specs.Prelude.{Bool, true, false, not, ◌&&◌, ◌||◌, Option, is_some, slice_get, nat_eq}
 use Rattle.std.specs.List.{All, list_all}
 use Rattle.std.proofs.lemmas.Bool.Decides.{nat_tests}
@@ -11,12 +11,12 @@ use Rattle.je_core.specs.declared.types.ClassId.{ClassId}
 use Rattle.je_core.specs.Core.{CoreField, CoreMethod, CoreClass, CoreProgram}
 use Rattle.je_classes.specs.Hierarchy.{class_at, same_class, is_below, supers_of}
 use Rattle.je_classes.specs.Subtypes.{same_types}
-use Rattle.je_classes.specs.Members.{Member, same_name}
+use Rattle.je_classes.specs.Members.{Member, same_name, is_private}
 use Rattle.je_classes.specs.Dispatch.{implemented, dispatched}
 use Rattle.je_classes.proofs.Lists.{bool_cases}
 use Rattle.je_fitting.specs.Expressions.{outer_count, method_at, is_constructor, can_be_made, places_up_to}
 use Rattle.je_fitting.specs.Members.{is_guest, results_agree, StandsFor, InitializerFits, FieldFits, MethodFits}
-use Rattle.je_fitting.specs.Classes.{can_be_extended, is_interface, is_round, SuperclassFits, none_above, one_above, is_enum_sort, is_hidden, hidden_fields, field_types, outer_type, enum_types, handed_count, HiddenFit, same_places, BridgeFits, IsInstanceMethod, InheritedFit, Implements, ClassFits}
+use Rattle.je_fitting.specs.Classes.{can_be_extended, is_interface, is_round, SuperclassFits, none_above, one_above, is_hidden, hidden_fields, field_types, outer_type, enum_types, handed_count, HiddenFit, same_places, BridgeFits, IsInstanceMethod, InheritedFit, Implements, ClassFits}
 use Rattle.je_fitting.specs.Program.{Part, itself, a_field, a_method, PartFits, itself_fits, field_fits, method_fits, IsPart, is_itself, is_field, is_method, FitsWhole, FitsProgram}
 use Rattle.je_fitting.specs.way.Deciding.{same_pair}
 use Rattle.je_fitting.specs.way.DecidingMembers.{stands_for, is_field_fit, is_method_fit, is_initializer_fit}
@@ -47,11 +47,11 @@ all-places P (x ∷ xs) f = All-cons P x xs (f 0 x refl) (all-places P xs (λ i 
 -- ---- hidden fields
 
 hidden-sound : (c : CoreClass) → is_hidden_fit c ≡ true → HiddenFit c
-hidden-sound c e = let q = five {a = nat_eq (length (hidden_fields c)) (handed_count c + length (enum_types c.kind.sort))} {b = list_all is_hidden (take (handed_count c) c.fields)} {c = same_types (take (outer_count c.enclosing) (field_types c.fields)) (outer_type c.enclosing)} {d = implies (is_enum_sort c.kind.sort) (same_types (field_types (hidden_fields c)) (enum_types c.kind.sort))} {f = list_all (λ (f : CoreField). not f.is_static && f.is_final) (hidden_fields c)} e in record {
+hidden-sound c e = let q = five {a = nat_eq (length (hidden_fields c)) (handed_count c + length (enum_types c.kind.sort))} {b = list_all is_hidden (take (handed_count c) c.fields)} {c = same_types (take (outer_count c.enclosing) (field_types c.fields)) (outer_type c.enclosing)} {d = same_types (drop (handed_count c) (field_types (hidden_fields c))) (enum_types c.kind.sort)} {f = list_all (λ (f : CoreField). not f.is_static && f.is_final) (hidden_fields c)} e in record {
   count = let g : nat_eq (length (hidden_fields c)) (handed_count c + length (enum_types c.kind.sort)) ≡ true = q.0 in grind (arith, nat_tests);
   first = each-of is_hidden (λ f. is_hidden f ≡ true) (λ f h. h) (take (handed_count c) c.fields) q.1;
   outer = types-equal (take (outer_count c.enclosing) (field_types c.fields)) (outer_type c.enclosing) q.2;
-  of_enum = λ i. types-equal (field_types (hidden_fields c)) (enum_types c.kind.sort) (implied q.3 i);
+  of_enum = types-equal (drop (handed_count c) (field_types (hidden_fields c))) (enum_types c.kind.sort) q.3;
   own = each-of (λ (f : CoreField). not f.is_static && f.is_final) (λ (f : CoreField). f.is_static ≡ false) (λ f h. let r = two {a = not f.is_static} {b = f.is_final} h in is_false r.0) (hidden_fields c) q.4;
   final = each-of (λ (f : CoreField). not f.is_static && f.is_final) (λ (f : CoreField). f.is_final ≡ true) (λ f h. let r = two {a = not f.is_static} {b = f.is_final} h in r.1) (hidden_fields c) q.4;
 }
@@ -66,7 +66,7 @@ hidden-complete c k =
     let n : length (hidden_fields c) ≡ handed_count c + length (enum_types c.kind.sort) = k.count in
     let g : nat_eq (length (hidden_fields c)) (handed_count c + length (enum_types c.kind.sort)) ≡ true = grind (arith, nat_tests) in
     both (both (both (both g (of-each is_hidden (λ f. is_hidden f ≡ true) (λ f h. h) (take (handed_count c) c.fields) k.first)) (rw k.outer (types-same (outer_type c.enclosing))))
-    (implying (is_enum_sort c.kind.sort) (same_types (field_types (hidden_fields c)) (enum_types c.kind.sort)) (λ i. rw (k.of_enum i) (types-same (enum_types c.kind.sort)))))
+    (rw k.of_enum (types-same (enum_types c.kind.sort))))
     (own-and-final (hidden_fields c) k.own k.final)
 
 -- ---- bridges that begin apart
@@ -159,13 +159,13 @@ module _ (p : CoreProgram) where
       (λ _ g. if-there (λ by. stands_for p by k) (method_at p m.class m.at) (λ by there. stands_complete p by k (f m by refl g there))) refl
 
   inherited-sound : (class : ClassId) → are_inherited_fit p class ≡ true → InheritedFit p class
-  inherited-sound class e above at k i m by q f there = one-inherited class k (implemented p class k)
-      (implied (each-tested p (λ above at k. implies (is_instance_method p class above k) (is_inherited_fit p class k (implemented p class k))) e above at k i.there) (instance-sound class above at k i)) m by q f there
+  inherited-sound class e above at k i np m by q f there = one-inherited class k (implemented p class k)
+      (implied (each-tested p (λ above at k. implies (is_instance_method p class above k && not (is_private k)) (is_inherited_fit p class k (implemented p class k))) e above at k i.there) (both (instance-sound class above at k i) (is_not np))) m by q f there
 
   inherited-complete : (class : ClassId) → InheritedFit p class → are_inherited_fit p class ≡ true
-  inherited-complete class f = all-tested p (λ above at k. implies (is_instance_method p class above k) (is_inherited_fit p class k (implemented p class k)))
-      (λ above at k there. implying (is_instance_method p class above k) (is_inherited_fit p class k (implemented p class k))
-      (λ h. inherited-one class k (implemented p class k) (λ m by q g t. f above at k (instance-complete class above at k there h) m by q g t)))
+  inherited-complete class f = all-tested p (λ above at k. implies (is_instance_method p class above k && not (is_private k)) (is_inherited_fit p class k (implemented p class k)))
+      (λ above at k there. implying (is_instance_method p class above k && not (is_private k)) (is_inherited_fit p class k (implemented p class k))
+      (λ h. inherited-one class k (implemented p class k) (λ m by q g t. f above at k (instance-complete class above at k there (two {a = is_instance_method p class above k} {b = not (is_private k)} h).0) (is_false (two {a = is_instance_method p class above k} {b = not (is_private k)} h).1) m by q g t)))
 
   implements-sound : (class : ClassId) → implements_all p class ≡ true → Implements p class
   implements-sound class e above at k i =
@@ -182,7 +182,7 @@ module _ (p : CoreProgram) where
   class_sound class c e =
       let q = five {a = are_supers_fit p class c} {b = are_named_there p c} {c = implies (is_guest class) (is_hidden_fit c)} {d = are_bridges_fit p class c} {f = are_inherited_fit p class && implies (can_be_made c) (implements_all p class) && list_all (is_initializer_fit p class) c.initializers} e in
       let s = four {a = is_superclass_fit p class c c.superclass} {b = list_all (λ i. is_interface (class_at p i)) c.interfaces} {c = list_all (λ s. not (is_below p s class)) (supers_of p class)} {d = not (is_round p (length p.classes) class c.within)} q.0 in
-      let n = three {a = list_all (λ (h : Head). is_some (class_at p h.class)) c.heads} {b = if_there (λ d. is_some (class_at p d)) c.within} {c = is_some (class_at p c.top)} q.1 in
+      let n = four {a = list_all (λ (h : Head). is_some (class_at p h.class)) c.heads} {b = if_there (λ d. is_some (class_at p d)) c.within} {c = is_some (class_at p c.top)} {d = if_there (λ d. is_some (class_at p d)) c.enclosing} q.1 in
       let b = two {a = list_all (is_bridge_fit p class) c.bridges} {b = begin_apart c.bridges} q.3 in
       let r = three {a = are_inherited_fit p class} {b = implies (can_be_made c) (implements_all p class)} {c = list_all (is_initializer_fit p class) c.initializers} q.4 in
       record {
@@ -193,6 +193,7 @@ module _ (p : CoreProgram) where
         heads = each-of (λ (h : Head). is_some (class_at p h.class)) (λ (h : Head). is_some (class_at p h.class) ≡ true) (λ h g. g) c.heads n.0;
         round = λ d there. on-there (λ d. is_some (class_at p d)) c.within n.1 d there;
         top = n.2;
+        outer = λ d there. on-there (λ d. is_some (class_at p d)) c.enclosing n.3 d there;
         hidden = λ g. hidden-sound c (implied q.2 g);
         bridges = each-of (is_bridge_fit p class) (BridgeFits p class) (λ b h. between-sound class b (method_at p b.method.0 b.method.1) (method_at p b.by.0 b.by.1) refl refl h) c.bridges b.0;
         one_bridge = apart-sound c.bridges b.1;
@@ -205,8 +206,8 @@ module _ (p : CoreProgram) where
   class_complete class c k =
       let s : are_supers_fit p class c ≡ true = both (both (both (superclass-complete class c c.superclass k.superclass) (of-each (λ i. is_interface (class_at p i)) (λ i. is_interface (class_at p i) ≡ true) (λ i h. h) c.interfaces k.interfaces))
       (of-each (λ s. not (is_below p s class)) (λ s. is_below p s class ≡ false) (λ s h. is_not h) (supers_of p class) k.not_above_itself)) (is_not k.not_round_itself) in
-      let n : are_named_there p c ≡ true = both (both (of-each (λ (h : Head). is_some (class_at p h.class)) (λ (h : Head). is_some (class_at p h.class) ≡ true) (λ h g. g) c.heads k.heads)
-      (if-there (λ d. is_some (class_at p d)) c.within (λ d there. k.round d there))) k.top in
+      let n : are_named_there p c ≡ true = both (both (both (of-each (λ (h : Head). is_some (class_at p h.class)) (λ (h : Head). is_some (class_at p h.class) ≡ true) (λ h g. g) c.heads k.heads)
+      (if-there (λ d. is_some (class_at p d)) c.within (λ d there. k.round d there))) k.top) (if-there (λ d. is_some (class_at p d)) c.enclosing (λ d there. k.outer d there)) in
       let b : are_bridges_fit p class c ≡ true = both (of-each (is_bridge_fit p class) (BridgeFits p class) (λ b h. bridge-complete class b h) c.bridges k.bridges) (apart-complete c.bridges k.one_bridge) in
       both (both (both (both s n) (implying (is_guest class) (is_hidden_fit c) (λ g. hidden-complete c (k.hidden g)))) b)
       (both (both (inherited-complete class k.inherited) (implying (can_be_made c) (implements_all p class) (λ m. implements-complete class (k.implements m))))

@@ -141,7 +141,7 @@ module _ (p : CoreProgram) (b : Body) where
     complete _ (static {o = o} {c = c} {n = n} {f = f} q there own) = both (maybe_complete c o q) (a-field true (field_at p c n) f there own)
     complete _ (index {a = a} {i = i} {t = t} q e r n) = both (both (both (complete a q) (rw e (same (array_of t)))) (complete i r)) n
     complete _ (length_of {a = a} {t = t} q e) = both (both (complete a q) (rw e (let z : nat_lt 0 (suc t.dims) ≡ true = grind (arith, nat_tests) in z))) (same int)
-    complete _ (assign {place = place} {value = value} {form = form} {t = t} e q k v a) = both (both (both (both (complete place q) (rw e (same t))) (rw e (place-complete form k))) (complete value v)) a
+    complete _ (assign {place = place} {value = value} {form = form} {t = t} e q k v a z) = both (both (both (both (complete place q) (rw e (place-complete form k))) (complete value v)) a) (rw e z)
     complete _ (step {place = place} {form = form} {t = t} e q k n s) = both (both (both (complete place q) (rw e (same t))) (rw e (place-complete form k))) (both n s)
     complete _ (update {place = place} {operand = operand} {form = form} {t = t} e q k v u) =
         both (both (both (complete place q) (rw e (same t))) (rw e (place-complete form k))) (both (both (complete operand v) u) refl)

@@ -17,7 +17,7 @@ use Rattle.je_fitting.specs.Expressions.{Code, constructor, method, instance_ini
 use Rattle.je_fitting.specs.Statements.{no_targets, LocalsThere, StatementFits, StatementsFit}
 use Rattle.je_fitting.specs.Statements as fits
 use Rattle.je_fitting.specs.Members.{is_guest, local_types, AreVariables, static_body, ConstantFits, FieldFits, HeadFits, head_call, BodyFits, a_block, behind_a_call, body_of, StandsFor, IsOverridden, MethodFits, initializer_body, InitializerFits}
-use Rattle.je_fitting.specs.way.Deciding.{are_fit, is_made_by}
+use Rattle.je_fitting.specs.way.Deciding.{is_fit, are_fit, is_made_by}
 use Rattle.je_fitting.specs.way.DecidingStatements.{locals_there, are_statements_fit}
 use Rattle.je_fitting.specs.way.Quantifying.{implies, if_there, each_method}
 use Rattle.je_fitting.specs.way.DecidingMembers.{same_bool, is_constructor_code, is_superclass, are_variables, is_constant_fit, is_field_fit, is_head_fit, is_call_first, is_body_fit, is_overridden, stands_for, is_constructor_fit, is_method_head_fit, is_method_body_fit, is_method_fit, is_initializer_fit}
@@ -114,10 +114,10 @@ module _ (p : CoreProgram) where
 
   head-sound : (b : Body) (s : Option ClassId) (e : Core) → is_head_fit p b s e ≡ true → HeadFits p b s e
   head-sound b s (node (core.CallExact (a_core o) c n args) t span at) h =
-      let q = five {a = is_this o} {b = same_class c b.class || is_superclass s c} {c = is_made_by p b (method_at p c n) (types_of (list_of args))} {d = are_fit p b args} {f = is_void t} h in
+      let q = five {a = is_this o && is_fit p b o} {b = same_class c b.class || is_superclass s c} {c = is_made_by p b (method_at p c n) (types_of (list_of args))} {d = are_fit p b args} {f = is_void t} h in
       let m = makes p b (method_at p c n) (types_of (list_of args)) q.2 in
       subst (λ (u : Ty). HeadFits p b s (node (core.CallExact (a_core o) c n args) u span at)) (sym (same_type-equal t void q.4))
-      (head_call q.0 (callee b s c q.1) m.1 m.2 (all_sound p b args q.3) m.3)
+      (head_call (two {a = is_this o} {b = is_fit p b o} q.0).0 (sound p b o (two {a = is_this o} {b = is_fit p b o} q.0).1) (callee b s c q.1) m.1 m.2 (all_sound p b args q.3) m.3)
   head-sound b s (node (core.Const v uses) t span at) h = absurd cc
   head-sound b s (node (core.Text u uses) t span at) h = absurd cc
   head-sound b s (node (core.Local n) t span at) h = absurd cc
@@ -144,8 +144,8 @@ module _ (p : CoreProgram) where
   head-sound b s (node (core.ArrayOf es) t span at) h = absurd cc
 
   head-complete : (b : Body) (s : Option ClassId) (e : Core) → HeadFits p b s e → is_head_fit p b s e ≡ true
-  head-complete b s _ (head_call {c = c} {n = n} {args = args} {m = m} q k there made all a) =
-      both (both (both (both q (called b s c k)) (made-by p b (method_at p c n) m (types_of (list_of args)) there made a)) (all_complete p b args all)) (same_type-refl void)
+  head-complete b s _ (head_call {c = c} {n = n} {args = args} {m = m} q fo k there made all a) =
+      both (both (both (both (both q (complete p b _ fo)) (called b s c k)) (made-by p b (method_at p c n) m (types_of (list_of args)) there made a)) (all_complete p b args all)) (same_type-refl void)
 
   call-sound : (b : Body) (s : Option ClassId) (locals : List ℕ) (parts : CoreStmts) (span at : Span) → LocalsThere p b locals → is_call_first p b s parts ≡ true → BodyFits p b s (stmt (core.Block locals parts) span at)
   call-sound b s locals (more_stmts (stmt (core.Do call) span' at') parts) span at l h = let q = three h in
@@ -207,14 +207,14 @@ module _ (p : CoreProgram) where
   overrides-sound : (class : ClassId) (m : CoreMethod) → each_method p (λ above at k. implies (is_overridden p class m above k) (stands_for p m k)) ≡ true →
       (above : ClassId) (at : ℕ) (k : CoreMethod) → IsOverridden p class m above at k → StandsFor p m k
   overrides-sound class m e above at k o = stands-sound m k (implied (each-tested p (λ above at k. implies (is_overridden p class m above k) (stands_for p m k)) e above at k o.there)
-      (both (both (both (both o.is_above (is_not o.is_other)) o.alike) (is_not o.not_private)) (is_not o.no_constructor)))
+      (both (both (both (both o.is_above (is_not o.no_hiding)) o.alike) (is_not o.not_private)) (is_not o.no_constructor)))
 
   overrides-complete : (class : ClassId) (m : CoreMethod) → ((above : ClassId) (at : ℕ) (k : CoreMethod) → IsOverridden p class m above at k → StandsFor p m k) →
       each_method p (λ above at k. implies (is_overridden p class m above k) (stands_for p m k)) ≡ true
   overrides-complete class m f = all-tested p (λ above at k. implies (is_overridden p class m above k) (stands_for p m k))
       (λ above at k there. implying (is_overridden p class m above k) (stands_for p m k)
-      (λ o. let q = five {a = is_below p class above} {b = not (same_class class above)} {c = same_signature m k} {d = not (is_private k)} {f = not (is_constructor p k)} o in
-      stands-complete m k (f above at k (record { there = there; is_above = q.0; is_other = is_false q.1; alike = q.2; not_private = is_false q.3; no_constructor = is_false q.4 }))))
+      (λ o. let q = five {a = is_below p class above} {b = not (m.flags.is_static && k.flags.is_static)} {c = same_signature m k} {d = not (is_private k)} {f = not (is_constructor p k)} o in
+      stands-complete m k (f above at k (record { there = there; is_above = q.0; no_hiding = is_false q.1; alike = q.2; not_private = is_false q.3; no_constructor = is_false q.4 }))))
 
   pub method_sound : (class : ClassId) (c : CoreClass) (m : CoreMethod) → is_method_fit p class c m ≡ true → MethodFits p class c m
   method_sound class c m e =

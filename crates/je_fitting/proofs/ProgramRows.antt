@@ -4,7 +4,7 @@ use Rattle.std.specs.Prelude.{Bool, true, false, pos}
 use Rattle.je_base.specs.declared.span.NameId.{NameId}
 use Rattle.je_base.specs.declared.span.Span.{Span}
 use Rattle.je_core.specs.declared.program.Access.{Access}
-use Rattle.je_core.specs.declared.program.Access.TheVariants.{Public, Hidden}
+use Rattle.je_core.specs.declared.program.Access.TheVariants.{Public, Private, Hidden}
 use Rattle.je_core.specs.declared.program.Bridge.{Bridge}
 use Rattle.je_core.specs.declared.program.Local.{Local as LocalOf}
 use Rattle.je_core.specs.declared.program.Sort.{Sort}
@@ -263,3 +263,35 @@ two_bridges = refl
 one_bridge : is_program_fit (program class_i (record class_a { bridges = bridge 1 1 ∷ [] }) class_b) ≡ true
 unfolding is_subtype is_below object_class library_class constructor_place implemented dispatched
 one_bridge = refl
+
+static_hiding : is_program_fit (program class_i class_a (record class_b { methods = class_b.methods ++ record method_g { returns = text; body = block (s (core.Return (Some nothing)) ∷ []) } ∷ [] })) ≡ true
+unfolding is_subtype is_below object_class library_class constructor_place implemented dispatched
+static_hiding = refl
+
+-- abstract class B extends A { B() { super(1); } abstract String f(); }
+abbrev abstract_again : CoreClass
+abstract_again = record class_b { kind = record class_b.kind { is_abstract = true }; methods = class_b.methods ++ abstract (record method_f { body = None }) ∷ [] }
+
+it_is_abstract_again : is_program_fit (program class_i class_a abstract_again) ≡ true
+unfolding is_subtype is_below object_class library_class constructor_place implemented dispatched
+it_is_abstract_again = refl
+
+-- class C extends B { C() { super(); } }
+abbrev heir : CoreClass
+heir = class sort.Class (Some (c 41)) [] [] (method 1 [] void [] (block (s (core.Do (e (core.CallExact (a_core (e core.This (class_type (c 42)))) (c 41) 0 (cores [])) void)) ∷ [])) ∷ [])
+
+heir_of_an_abstract_method : is_program_fit (record { classes = library ++ class_i ∷ class_a ∷ abstract_again ∷ heir ∷ []; texts = [] }) ≡ false
+unfolding is_subtype is_below object_class library_class constructor_place implemented dispatched
+heir_of_an_abstract_method = refl
+
+heir_of_a_method : is_program_fit (record { classes = library ++ class_i ∷ class_a ∷ class_b ∷ heir ∷ []; texts = [] }) ≡ true
+unfolding is_subtype is_below object_class library_class constructor_place implemented dispatched
+heir_of_a_method = refl
+
+private_and_abstract : is_program_fit (program class_i (with_methods (made ∷ method_f ∷ method_g ∷ (let m = abstract (method 5 [] int [] None) in record m { flags = record m.flags { access = Private } }) ∷ [])) class_b) ≡ false
+unfolding is_subtype is_below object_class library_class constructor_place implemented dispatched
+private_and_abstract = refl
+
+one_signature_of_two : is_program_fit (program class_i (with_methods (made ∷ method_f ∷ static method_f ∷ method_g ∷ [])) class_b) ≡ false
+unfolding is_subtype is_below object_class library_class constructor_place implemented dispatched
+one_signature_of_two = refl

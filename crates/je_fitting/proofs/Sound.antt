@@ -203,7 +203,7 @@ module _ (p : CoreProgram) (b : Body) where
     form_sound (core.Index a i) t span at e = let q = four e in index (sound a q.0) (same_type-equal (ty_of a) (array_of t) q.1) (sound i q.2) q.3
     form_sound (core.Length a) t span at e = let q = three e in told (core.Length a) int t span at q.2 (length_of (sound a q.0) (an-array (ty_of a) q.1))
     form_sound (core.Assign (node f u s k) value) t span at e = let q = five e in
-        assign (ap (λ (z : Ty). node f z s k) (same_type-equal u t q.1)) (form_sound f u s k q.0) (place-sound f q.2) (sound value q.3) q.4
+        assign refl (form_sound f u s k q.0) (place-sound f q.1) (sound value q.2) q.3 q.4
     form_sound (core.Update (node f u s k) o operand old) t span at e = let q = four e in
         update_sound f u s k o operand old t span at (form_sound f u s k q.0) (same_type-equal u t q.1) (place-sound f q.2) q.3
     form_sound (core.Unary o e) t span at h = let q = three h in told (core.Unary o e) (ty_of e) t span at q.2 (unary (sound e q.0) q.1)

@@ -12,16 +12,15 @@ use Rattle.je_core.specs.Core.{Core, CoreStmt, CoreStmtForm, CoreStmts, MaybeStm
 use Rattle.je_core.specs.Core as core
 use Rattle.je_classes.specs.Subtypes.{class_type}
 use Rattle.je_classes.proofs.Same.{same_type-refl, same_type-equal}
-use Rattle.je_fitting.specs.Types.{void}
+use Rattle.je_fitting.specs.Types.{void, agrees}
 use Rattle.je_fitting.specs.Expressions.{Body, Fits, field_at, are_there}
 use Rattle.je_fitting.specs.Statements as fits
 use Rattle.je_fitting.specs.Statements.{Targets, in_loop, in_switch, labelled_by, label_of, is_selector, Gives, no_value, a_value, LocalsThere, StatementFits, StatementsFit, MaybeFits, GroupsFit, CatchesFit, no_statements, more_statements, no_statement, a_statement, no_more_groups, one_more_group, no_more_catches, one_more_catch}
 use Rattle.je_fitting.specs.way.Deciding.{is_fit, uses_there}
-use Rattle.je_fitting.specs.way.DecidingStatements.{is_loop_label, gives_value, locals_there, labels_fit, is_statement_fit, is_form_fit, are_statements_fit, is_maybe_fit, are_groups_fit, are_catches_fit}
+use Rattle.je_fitting.specs.way.DecidingStatements.{if_some, is_loop_label, gives_value, locals_there, labels_fit, is_statement_fit, is_form_fit, are_statements_fit, is_maybe_fit, are_groups_fit, are_catches_fit}
 use Rattle.je_fitting.proofs.Booleans.{two, three, four, both}
-use Rattle.je_fitting.proofs.Sound.{sound, gives-type}
+use Rattle.je_fitting.proofs.Sound.{sound}
 use Rattle.je_fitting.proofs.Complete.{complete}
-use Rattle.je_fitting.proofs.Complete as whole
 
 module _ (p : CoreProgram) (b : Body) where
   -- ---- lists
@@ -62,6 +61,14 @@ module _ (p : CoreProgram) (b : Body) where
   labels-complete : (ls : List CoreLabel) → All (λ (l : CoreLabel). are_there p l.uses) ls → labels_fit p b ls ≡ true
   labels-complete [] a = refl
   labels-complete (l ∷ ls) a = both (uses-complete l.uses (All-head (λ (l : CoreLabel). are_there p l.uses) l ls a)) (labels-complete ls (All-tail (λ (l : CoreLabel). are_there p l.uses) l ls a))
+
+  local-takes : (test : Ty → Bool) (o : Option Ty) → if_some test o ≡ true → (t : Ty) × (o ≡ Some t) × (test t ≡ true)
+  local-takes test None e = absurd cc
+  local-takes test (Some t) e = (t, refl, e)
+
+  takes-local : (test : Ty → Bool) (o : Option Ty) (t : Ty) → o ≡ Some t → test t ≡ true → if_some test o ≡ true
+  takes-local test None t e q = absurd cc
+  takes-local test (Some u) t e q = let r : u ≡ t = cc in subst (λ (z : Ty). test z ≡ true) (sym r) q
 
   -- ---- jumps and returns
 
@@ -121,7 +128,7 @@ module _ (p : CoreProgram) (b : Body) where
     catches_sound : (j : Targets) (cs : CoreCatches) → are_catches_fit p b j cs ≡ true → CatchesFit p b j cs
     catches_sound j no_catches e = no_more_catches
     catches_sound j (more_catches (catch local class span inner) cs) e = let q = four e in
-        one_more_catch (gives-type p b (slice_get b.locals local) (class_type class) q.0) q.1 (statement_sound j inner q.2) (catches_sound j cs q.3)
+        let l = local-takes (agrees p (class_type class)) (slice_get b.locals local) q.0 in one_more_catch l.1 l.2 q.1 (statement_sound j inner q.2) (catches_sound j cs q.3)
 
   -- ---- complete
 
@@ -161,5 +168,5 @@ module _ (p : CoreProgram) (b : Body) where
 
     catches_complete : (j : Targets) (cs : CoreCatches) → CatchesFit p b j cs → are_catches_fit p b j cs ≡ true
     catches_complete _ _ no_more_catches = refl
-    catches_complete j _ (one_more_catch {local = local} {class = class} {inner = inner} {cs = cs} t k q r) =
-        both (both (both (whole.gives-type p b (slice_get b.locals local) (class_type class) t) k) (statement_complete j inner q)) (catches_complete j cs r)
+    catches_complete j _ (one_more_catch {local = local} {class = class} {t = t} {inner = inner} {cs = cs} l a k q r) =
+        both (both (both (takes-local (agrees p (class_type class)) (slice_get b.locals local) t l a) k) (statement_complete j inner q)) (catches_complete j cs r)

@@ -1,5 +1,5 @@
 -- When a class itself fits: its supers, bridges, hidden fields and initializers, and what it inherits (JLS 8.1, 8.4.8, 9.1).
-use Rattle.std.specs.Prelude.{◌≡◌, ℕ, zero, suc, ◌+◌, Bool, true, false, not, ◌&&◌, ◌||◌, List, [], ◌∷◌, map, filter, take, length, Option, Some, None, slice_get, is_some}
+use Rattle.std.specs.Prelude.{◌≡◌, ℕ, zero, suc, ◌+◌, Bool, true, false, not, ◌&&◌, ◌||◌, List, [], ◌∷◌, map, filter, take, drop, length, Option, Some, None, slice_get, is_some}
 use Rattle.std.specs.List.{All}
 use Rattle.je_core.specs.declared.program.Bridge.{Bridge}
 use Rattle.je_core.specs.declared.program.Head.{Head}
@@ -10,7 +10,7 @@ use Rattle.je_core.specs.declared.types.Ty.{Ty}
 use Rattle.je_core.specs.Core.{CoreField, CoreMethod, CoreClass, CoreProgram}
 use Rattle.je_classes.specs.Hierarchy.{class_at, same_class, is_below, object_class, supers_of}
 use Rattle.je_classes.specs.Subtypes.{class_type, is_reference, same_type}
-use Rattle.je_classes.specs.Members.{Member, same_name, is_hidden_access}
+use Rattle.je_classes.specs.Members.{Member, same_name, is_hidden_access, is_private}
 use Rattle.je_classes.specs.Dispatch.{implemented, dispatched}
 use Rattle.je_fitting.specs.Types.{int, string, is_primitive}
 use Rattle.je_fitting.specs.Expressions.{outer_count, method_at, is_constructor, is_interface_sort, can_be_made}
@@ -75,7 +75,7 @@ pub record HiddenFit (c : CoreClass) : Type 0 where
   pub count : length (hidden_fields c) ≡ handed_count c + length (enum_types c.kind.sort)
   pub first : All (λ f. is_hidden f ≡ true) (take (handed_count c) c.fields)
   pub outer : take (outer_count c.enclosing) (field_types c.fields) ≡ outer_type c.enclosing
-  pub of_enum : is_enum_sort c.kind.sort ≡ true → field_types (hidden_fields c) ≡ enum_types c.kind.sort
+  pub of_enum : drop (handed_count c) (field_types (hidden_fields c)) ≡ enum_types c.kind.sort
   pub own : All (λ f. f.is_static ≡ false) (hidden_fields c)
   pub final : All (λ f. f.is_final ≡ true) (hidden_fields c)
 
@@ -116,7 +116,7 @@ pub record IsInstanceMethod (program : CoreProgram) (class : ClassId) (above : C
 
 -- what the class inherits to stand for a method of its signature fits it
 abbrev pub InheritedFit : CoreProgram → ClassId → Type 0
-InheritedFit program class = (above : ClassId) (at : ℕ) (k : CoreMethod) → IsInstanceMethod program class above at k → (m : Member) (by : CoreMethod) →
+InheritedFit program class = (above : ClassId) (at : ℕ) (k : CoreMethod) → IsInstanceMethod program class above at k → is_private k ≡ false → (m : Member) (by : CoreMethod) →
     implemented program class k ≡ Some m → same_class m.class class ≡ false → method_at program m.class m.at ≡ Some by → StandsFor program by k
 
 -- a class of which there are objects has an implementation of each method
@@ -134,6 +134,7 @@ pub record ClassFits (program : CoreProgram) (class : ClassId) (c : CoreClass) :
   pub heads : All (λ (h : Head). is_some (class_at program h.class) ≡ true) c.heads
   pub round : (d : ClassId) → c.within ≡ Some d → is_some (class_at program d) ≡ true
   pub top : is_some (class_at program c.top) ≡ true
+  pub outer : (d : ClassId) → c.enclosing ≡ Some d → is_some (class_at program d) ≡ true
   pub hidden : is_guest class ≡ true → HiddenFit c
   pub bridges : All (BridgeFits program class) c.bridges
   pub one_bridge : (i j : ℕ) (a b : Bridge) → slice_get c.bridges i ≡ Some a → slice_get c.bridges j ≡ Some b → a.method ≡ b.method → i ≡ j

@@ -152,8 +152,8 @@ module _ (program : CoreProgram) (body : Body) where
       index : {a i : Core} {t : Ty} {span at : Span} → Fits a → ty_of a ≡ array_of t → Fits i → is_int (ty_of i) ≡ true →
           Fits (node (core.Index a i) t span at)
       length_of : {a : Core} {t : Ty} {span at : Span} → Fits a → ty_of a ≡ array_of t → Fits (node (core.Length a) int span at)
-      assign : {place value : Core} {form : CoreForm} {t : Ty} {span at span' at' : Span} → place ≡ node form t span' at' → Fits place → IsPlace form →
-          Fits value → agrees program (ty_of value) t ≡ true → Fits (node (core.Assign place value) t span at)
+      assign : {place value : Core} {form : CoreForm} {t u : Ty} {span at span' at' : Span} → place ≡ node form t span' at' → Fits place → IsPlace form →
+          Fits value → agrees program (ty_of value) u ≡ true → agrees program u t ≡ true → Fits (node (core.Assign place value) u span at)
       step : {place : Core} {form : CoreForm} {t : Ty} {o : BinOp} {old : Bool} {span at span' at' : Span} → place ≡ node form t span' at' → Fits place → IsPlace form →
           is_number t ≡ true → is_step o ≡ true → Fits (node (core.Update place o no_core old) t span at)
       update : {place operand : Core} {form : CoreForm} {t : Ty} {o : BinOp} {span at span' at' : Span} → place ≡ node form t span' at' → Fits place → IsPlace form →

@@ -8,7 +8,7 @@ use Rattle.je_core.specs.declared.types.Ty.{Ty}
 use Rattle.je_core.specs.Core.{Core, Cores, CoreStmt, CoreStmts, CoreField, CoreInitializer, CoreMethod, CoreClass, CoreProgram, node, a_core, list_of, stmt, more_stmts, form_of, ty_of}
 use Rattle.je_core.specs.Core as core
 use Rattle.je_table.specs.Library.{classes}
-use Rattle.je_classes.specs.Hierarchy.{class_at, same_class, is_below}
+use Rattle.je_classes.specs.Hierarchy.{class_at, is_below}
 use Rattle.je_classes.specs.Subtypes.{same_type}
 use Rattle.je_classes.specs.Members.{is_private}
 use Rattle.je_classes.specs.Dispatch.{same_signature}
@@ -56,7 +56,7 @@ is_block _ = false
 
 -- The constructor call at the head of a constructor, of its own class or of the superclass (JLS 8.8.7.1).
 pub data HeadFits (program : CoreProgram) (body : Body) (superclass : Option ClassId) : Core → Type 0 where
-  head_call : {o : Core} {c : ClassId} {n : ℕ} {args : Cores} {m : CoreMethod} {span at : Span} → is_this o ≡ true → (c ≡ body.class) ⊎ (superclass ≡ Some c) →
+  head_call : {o : Core} {c : ClassId} {n : ℕ} {args : Cores} {m : CoreMethod} {span at : Span} → is_this o ≡ true → Fits program body o → (c ≡ body.class) ⊎ (superclass ≡ Some c) →
       method_at program c n ≡ Some m → is_constructor program m ≡ true → AllFit program body args → all_agree program (types_of (list_of args)) m.params ≡ true →
       HeadFits program body superclass (node (core.CallExact (a_core o) c n args) void span at)
 
@@ -92,7 +92,7 @@ pub record StandsFor (program : CoreProgram) (m k : CoreMethod) : Type 0 where
 pub record IsOverridden (program : CoreProgram) (class : ClassId) (m : CoreMethod) (above : ClassId) (at : ℕ) (k : CoreMethod) : Type 0 where
   pub there : method_at program above at ≡ Some k
   pub is_above : is_below program class above ≡ true
-  pub is_other : same_class class above ≡ false
+  pub no_hiding : (m.flags.is_static && k.flags.is_static) ≡ false
   pub alike : same_signature m k ≡ true
   pub not_private : is_private k ≡ false
   pub no_constructor : is_constructor program k ≡ false

@@ -96,5 +96,5 @@ module _ (program : CoreProgram) (body : Body) where
 
     pub data CatchesFit : Targets → CoreCatches → Type 0 where
       no_more_catches : {j : Targets} → CatchesFit j no_catches
-      one_more_catch : {j : Targets} {local : ℕ} {class : ClassId} {inner : CoreStmt} {cs : CoreCatches} {span : Span} → slice_get body.locals local ≡ Some (class_type class) →
+      one_more_catch : {j : Targets} {local : ℕ} {class : ClassId} {t : Ty} {inner : CoreStmt} {cs : CoreCatches} {span : Span} → slice_get body.locals local ≡ Some t → agrees program (class_type class) t ≡ true →
           is_subtype program (class_type class) throwable ≡ true → StatementFits j inner → CatchesFit j cs → CatchesFit j (more_catches (catch local class span inner) cs)

@@ -1,5 +1,5 @@
 -- Whether a class itself fits, and a program, as tests.
-use Rattle.std.specs.Prelude.{Bool, true, false, not, ◌&&◌, ◌||◌, ◌+◌, List, take, length, Option, Some, None, is_some, slice_get, nat_eq}
+use Rattle.std.specs.Prelude.{Bool, true, false, not, ◌&&◌, ◌||◌, ◌+◌, List, take, drop, length, Option, Some, None, is_some, slice_get, nat_eq}
 use Rattle.std.specs.List.{list_all}
 use Rattle.je_core.specs.declared.program.Bridge.{Bridge}
 use Rattle.je_core.specs.declared.program.Head.{Head}
@@ -7,11 +7,11 @@ use Rattle.je_core.specs.declared.types.ClassId.{ClassId}
 use Rattle.je_core.specs.Core.{CoreField, CoreMethod, CoreClass, CoreProgram}
 use Rattle.je_classes.specs.Hierarchy.{class_at, same_class, is_below, object_class, supers_of}
 use Rattle.je_classes.specs.Subtypes.{same_types}
-use Rattle.je_classes.specs.Members.{Member, same_name}
+use Rattle.je_classes.specs.Members.{Member, same_name, is_private}
 use Rattle.je_classes.specs.Dispatch.{implemented, dispatched}
 use Rattle.je_fitting.specs.Expressions.{outer_count, method_at, is_constructor, is_interface_sort, can_be_made, places_up_to}
 use Rattle.je_fitting.specs.Members.{is_guest, results_agree}
-use Rattle.je_fitting.specs.Classes.{can_be_extended, is_interface, is_round, is_enum_sort, is_hidden, hidden_fields, field_types, outer_type, enum_types, handed_count, same_places}
+use Rattle.je_fitting.specs.Classes.{can_be_extended, is_interface, is_round, is_hidden, hidden_fields, field_types, outer_type, enum_types, handed_count, same_places}
 use Rattle.je_fitting.specs.way.Deciding.{same_pair}
 use Rattle.je_fitting.specs.way.DecidingMembers.{stands_for, is_field_fit, is_method_fit, is_initializer_fit}
 use Rattle.je_fitting.specs.way.Quantifying.{implies, if_there, each_method}
@@ -22,7 +22,7 @@ is_top class c = same_class class object_class || is_interface_sort c.kind.sort
 abbrev pub is_hidden_fit : CoreClass → Bool
 is_hidden_fit c =
     nat_eq (length (hidden_fields c)) (handed_count c + length (enum_types c.kind.sort)) && list_all is_hidden (take (handed_count c) c.fields) &&
-    same_types (take (outer_count c.enclosing) (field_types c.fields)) (outer_type c.enclosing) && implies (is_enum_sort c.kind.sort) (same_types (field_types (hidden_fields c)) (enum_types c.kind.sort)) &&
+    same_types (take (outer_count c.enclosing) (field_types c.fields)) (outer_type c.enclosing) && same_types (drop (handed_count c) (field_types (hidden_fields c))) (enum_types c.kind.sort) &&
     list_all (λ (f : CoreField). not f.is_static && f.is_final) (hidden_fields c)
 
 abbrev pub begin_alike : Option Bridge → Option Bridge → Bool
@@ -55,7 +55,7 @@ module _ (program : CoreProgram) where
   is_inherited_fit class k (Some m) = same_class m.class class || if_there (λ by. stands_for program by k) (method_at program m.class m.at)
 
   abbrev pub are_inherited_fit : ClassId → Bool
-  are_inherited_fit class = each_method program (λ above at k. implies (is_instance_method class above k) (is_inherited_fit class k (implemented program class k)))
+  are_inherited_fit class = each_method program (λ above at k. implies (is_instance_method class above k && not (is_private k)) (is_inherited_fit class k (implemented program class k)))
 
   abbrev pub implements_all : ClassId → Bool
   implements_all class = each_method program (λ above at k. implies (is_instance_method class above k) (is_some (dispatched program class (record { class = above; at = at }))))
@@ -67,7 +67,7 @@ module _ (program : CoreProgram) where
 
   abbrev pub are_named_there : CoreClass → Bool
   are_named_there c =
-      list_all (λ (h : Head). is_some (class_at program h.class)) c.heads && if_there (λ d. is_some (class_at program d)) c.within && is_some (class_at program c.top)
+      list_all (λ (h : Head). is_some (class_at program h.class)) c.heads && if_there (λ d. is_some (class_at program d)) c.within && is_some (class_at program c.top) && if_there (λ d. is_some (class_at program d)) c.enclosing
 
   abbrev pub are_bridges_fit : ClassId → CoreClass → Bool
   are_bridges_fit class c = list_all (is_bridge_fit class) c.bridges && begin_apart c.bridges

@@ -45,7 +45,7 @@ module _ (program : CoreProgram) where
 
   abbrev pub is_head_fit : Body → Option ClassId → Core → Bool
   is_head_fit body superclass (node (core.CallExact (a_core o) c n args) t span at) =
-      is_this o && (same_class c body.class || is_superclass superclass c) && is_made_by program body (method_at program c n) (types_of (list_of args)) && are_fit program body args && is_void t
+      (is_this o && is_fit program body o) && (same_class c body.class || is_superclass superclass c) && is_made_by program body (method_at program c n) (types_of (list_of args)) && are_fit program body args && is_void t
   is_head_fit body superclass _ = false
 
   -- a call at the head of a constructor, and the rest
@@ -62,7 +62,7 @@ module _ (program : CoreProgram) where
   -- ---- methods
 
   abbrev pub is_overridden : ClassId → CoreMethod → ClassId → CoreMethod → Bool
-  is_overridden class m above k = is_below program class above && not (same_class class above) && same_signature m k && not (is_private k) && not (is_constructor program k)
+  is_overridden class m above k = is_below program class above && not (m.flags.is_static && k.flags.is_static) && same_signature m k && not (is_private k) && not (is_constructor program k)
 
   abbrev pub stands_for : CoreMethod → CoreMethod → Bool
   stands_for m k = not m.flags.is_static && not k.flags.is_static && results_agree program m.returns k.returns

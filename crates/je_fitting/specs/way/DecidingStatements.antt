@@ -9,7 +9,11 @@ use Rattle.je_classes.specs.Subtypes.{class_type, is_subtype}
 use Rattle.je_fitting.specs.Types.{throwable, is_bool, is_void, agrees}
 use Rattle.je_fitting.specs.Expressions.{Body}
 use Rattle.je_fitting.specs.Statements.{Targets, in_loop, in_switch, labelled_by, label_of, is_selector}
-use Rattle.je_fitting.specs.way.Deciding.{gives_type, is_fit, uses_there}
+use Rattle.je_fitting.specs.way.Deciding.{is_fit, uses_there}
+
+abbrev pub if_some : (Ty → Bool) → Option Ty → Bool
+if_some test None = false
+if_some test (Some t) = test t
 
 abbrev pub is_loop_label : Option Bool → Bool
 is_loop_label None = false
@@ -67,4 +71,4 @@ module _ (program : CoreProgram) (body : Body) where
     pub are_catches_fit : Targets → CoreCatches → Bool
     are_catches_fit j no_catches = true
     are_catches_fit j (more_catches (catch local class span inner) cs) =
-        gives_type (slice_get body.locals local) (class_type class) && is_subtype program (class_type class) throwable && is_statement_fit j inner && are_catches_fit j cs
+        if_some (agrees program (class_type class)) (slice_get body.locals local) && is_subtype program (class_type class) throwable && is_statement_fit j inner && are_catches_fit j cs
