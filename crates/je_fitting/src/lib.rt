@@ -30,5 +30,4 @@ pub fn misfits_are_found()
 /// In a program that fits no class is above itself, so that the look-ups in it stand for what they are said to.
 pub fn fitting_is_acyclic()
     ensures { FittingIsAcyclic }
-{
-}
+{}
