@@ -12,7 +12,7 @@ mod argument_list;
 mod assignments;
 mod casts;
 mod conditionals;
-mod lengths;
+mod length_list;
 mod literals;
 mod shape;
 mod words;
@@ -21,6 +21,7 @@ pub use argument_list::arguments;
 pub use assignments::assignment;
 pub use casts::{cast, prefix};
 pub use conditionals::conditional;
+pub use length_list::{Inside, length, lengths};
 pub use literals::literal;
 pub use shape::{is_bare_creation, is_step, level, operator_level, span, type_span};
 pub use words::{

@@ -8,7 +8,7 @@ use Rattle.je_ast.specs.Height.{height}
 use Rattle.parse_laws.specs.way.Expressions as reading
 use Rattle.parse_types.specs.declared.found.Found.{Found}
 use Rattle.parse_operators.specs.declared.conditionals.Alternatives.{Alternatives}
-use Rattle.parse_operators.specs.declared.lengths.Inside.{Inside}
+use Rattle.parse_operators.specs.declared.length_list.Inside.{Inside}
 
 -- an expression in brackets
 abbrev pub seen_inside : Option Inside → reading.Inside

@@ -4,7 +4,7 @@ use Rattle.je_ast.specs.Height.{heights}
 use Rattle.parse_laws.specs.way.Expressions.{more_lengths_at}
 use Rattle.parse_below.specs.way.Readings.{below_at, body_at}
 use Rattle.parse_operators.specs.way.Readings.{lengths_at}
-use Rattle.parse_operators.proofs.lengths.lengths.Given as goal
+use Rattle.parse_operators.proofs.length_list.lengths.Given as goal
 
 abbrev pub invariant-loop : goal.invariant-loop
 invariant-loop g l = record {
