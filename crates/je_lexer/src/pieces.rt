@@ -83,7 +83,8 @@ fn lex_text(
 ) -> Result<Token, LexFault>
     requires { IsFalse (begins_with 39 front.now) }
     ensures ok { (names : List (List ℕ)) →
-        IfOk result (IsToken file (Cut.Literal len) front.now names texts.old.items names texts.new.items) }
+        IfOk result (IsToken file (Cut.Literal len) front.now names texts.old.items
+        names texts.new.items) }
     ensures fault { IfErr result (IsNoPiece file (Cut.Literal len) front.now) }
 {
     let units = match read_body(alloc, file, front) {
@@ -161,7 +162,8 @@ fn lex_literal(
     front: &[Character],
 ) -> Result<Token, LexFault>
     ensures ok { (names : List (List ℕ)) →
-        IfOk result (IsToken file (Cut.Literal len) front.now names texts.old.items names texts.new.items) }
+        IfOk result (IsToken file (Cut.Literal len) front.now names texts.old.items
+        names texts.new.items) }
     ensures fault { IfErr result (IsNoPiece file (Cut.Literal len) front.now) }
 {
     if begins_with(SINGLE_QUOTE, front) {

@@ -35,7 +35,8 @@ pub fn calls_reply()
     ensures { (names all_names : List (List ℕ)) (one : OneTree) (program : CoreProgram)
         (number units : ℕ) (receiver : Receiver) (given : List Value) (world : World)
         (outside : Outside) →
-        Fits names one → program_of all_names one ≡ Some program → CallFits (members_of one) number receiver given world.objects →
+        Fits names one → program_of all_names one ≡ Some program →
+        CallFits (members_of one) number receiver given world.objects →
         Replies (call program units receiver one_class number given world outside) }
 {}
 
@@ -44,10 +45,12 @@ pub fn calls_reply()
 pub fn never_wrong()
     ensures replies { (names all_names : List (List ℕ)) (one : OneTree) (program : CoreProgram)
         (main units : ℕ) →
-        Fits names one → program_of all_names one ≡ Some program → IsMain names (members_of one) main →
+        Fits names one → program_of all_names one ≡ Some program →
+        IsMain names (members_of one) main →
         Replies (call program units receiver.None one_class main [] new_world no_outside) }
     ensures not_wrong { (names all_names : List (List ℕ)) (one : OneTree) (program : CoreProgram)
         (main units : ℕ) →
-        Fits names one → program_of all_names one ≡ Some program → IsMain names (members_of one) main →
+        Fits names one → program_of all_names one ≡ Some program →
+        IsMain names (members_of one) main →
         call program units receiver.None one_class main [] new_world no_outside ≢ Wrong }
 {}

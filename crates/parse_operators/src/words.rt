@@ -1,7 +1,13 @@
 // Reads operators, and looks ahead for what follows them.
 
 ghost use Rattle.std.specs.Prelude.{◌≡◌};
-ghost use Rattle.parse_laws.specs.way.Expressions.{prefix_operator as prefix_operator_at, postfix_operator as postfix_operator_at, binary_operator as binary_operator_at, binary_kind, assignment_operator as assignment_operator_at, assignment_kind, makes_array_at, is_outer_this_at};
+ghost use Rattle.parse_laws.specs.way.Expressions.{prefix_operator as prefix_operator_at};
+ghost use Rattle.parse_laws.specs.way.Expressions.{postfix_operator as postfix_operator_at};
+ghost use Rattle.parse_laws.specs.way.Expressions.{binary_operator as binary_operator_at};
+ghost use Rattle.parse_laws.specs.way.Expressions.{binary_kind};
+ghost use Rattle.parse_laws.specs.way.Expressions.{assignment_operator as assignment_operator_at};
+ghost use Rattle.parse_laws.specs.way.Expressions.{assignment_kind, makes_array_at};
+ghost use Rattle.parse_laws.specs.way.Expressions.{is_outer_this_at};
 ghost use Rattle.parse_types.specs.way.Views.{read_of};
 
 use je_ast::{BinaryOp, PostfixOp, PrefixOp};

@@ -8,7 +8,9 @@ ghost use Rattle.parse_types.specs.way.Views.{seen, read_of, HasHeight};
 ghost use Rattle.parse_below.specs.way.Readers.{Reads, ReadsInitializers, ReadsStatements};
 ghost use Rattle.parse_below.specs.way.Views.{StatementHasHeight};
 ghost use Rattle.parse_statements.specs.way.Views.{expressions_view};
-ghost use Rattle.parse_statements.specs.way.Readings.{for_at, for_each_at, plain_for_at, start_at, start_locals_at, ended_condition_at, steps_before_at};
+ghost use Rattle.parse_statements.specs.way.Readings.{for_at, for_each_at, plain_for_at, start_at};
+ghost use Rattle.parse_statements.specs.way.Readings.{start_locals_at, ended_condition_at};
+ghost use Rattle.parse_statements.specs.way.Readings.{steps_before_at};
 
 use crate::declarators::{begins_local, variables};
 use crate::making::{each_loop, for_loop};

@@ -6,7 +6,8 @@ ghost use Rattle.parse_types.specs.way.Views.{seen};
 ghost use Rattle.parse_below.specs.way.Readers.{Reads};
 ghost use Rattle.parse_below.specs.way.Views.{StatementHasHeight};
 ghost use Rattle.parse_statements.specs.way.Views.{seen_label};
-ghost use Rattle.parse_statements.specs.way.Readings.{label_at, break_at, continue_at, return_at, throw_at, expression_statement_at};
+ghost use Rattle.parse_statements.specs.way.Readings.{label_at, break_at, continue_at, return_at};
+ghost use Rattle.parse_statements.specs.way.Readings.{throw_at, expression_statement_at};
 
 use crate::making::{break_off, go_on, throw};
 use je_ast::{Expr, Identifier, Stmt, make_expression_statement, make_return};

@@ -3,9 +3,11 @@
 ghost use Rattle.std.specs.Prelude.{◌≡◌, ◌+◌, ◌<◌, ◌^◌, IfOk};
 ghost use Rattle.je_ast.specs.View.{statement_view};
 ghost use Rattle.parse_types.specs.way.Views.{seen};
-ghost use Rattle.parse_below.specs.way.Readers.{Reads, ReadsInitializers, ReadsStatements, ReadsBlockStatements, ReadsBlocks};
+ghost use Rattle.parse_below.specs.way.Readers.{Reads, ReadsInitializers, ReadsStatements};
+ghost use Rattle.parse_below.specs.way.Readers.{ReadsBlockStatements, ReadsBlocks};
 ghost use Rattle.parse_below.specs.way.Views.{StatementHasHeight};
-ghost use Rattle.parse_statements.specs.way.Readings.{statement_layer, inner_block_at, local_at, label_or_step_at};
+ghost use Rattle.parse_statements.specs.way.Readings.{statement_layer, inner_block_at, local_at};
+ghost use Rattle.parse_statements.specs.way.Readings.{label_or_step_at};
 
 use crate::blocks::block_statements;
 use crate::branches::{do_statement, if_statement, labelled, while_statement};

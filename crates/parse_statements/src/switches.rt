@@ -7,8 +7,11 @@ ghost use Rattle.parse_laws.specs.way.Statements.{begins_label as label_begins};
 ghost use Rattle.parse_types.specs.way.Views.{seen, HasHeight};
 ghost use Rattle.parse_below.specs.way.Readers.{Reads, ReadsBlockStatements};
 ghost use Rattle.parse_below.specs.way.Views.{StatementHasHeight};
-ghost use Rattle.parse_statements.specs.way.Views.{label_tree, label_height, labels_view, group_tree, group_height, seen_groups, GroupsHaveHeights, statements_view};
-ghost use Rattle.parse_statements.specs.way.Readings.{switch_at, groups_at, group_at, labels_at, switch_label_at, group_statements_at};
+ghost use Rattle.parse_statements.specs.way.Views.{label_tree, label_height, labels_view};
+ghost use Rattle.parse_statements.specs.way.Views.{group_tree, group_height, seen_groups};
+ghost use Rattle.parse_statements.specs.way.Views.{GroupsHaveHeights, statements_view};
+ghost use Rattle.parse_statements.specs.way.Readings.{switch_at, groups_at, group_at, labels_at};
+ghost use Rattle.parse_statements.specs.way.Readings.{switch_label_at, group_statements_at};
 
 use crate::branches::condition;
 use je_ast::{Expr, Group, Label, Stmt, make_switch};

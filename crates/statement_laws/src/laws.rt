@@ -1,6 +1,10 @@
 // Laws of reading statements, each on a function without a body.
 
-ghost use Rattle.statement_laws.specs.Laws.{VariablesAreSpelled, VariablesAreRead, BlocksAreRead, StatementsAreRead, LocalVariablesAreSpelled, LocalVariablesAreRead, ConditionsAreRead, StepsAreRead, GroupsAreRead, NoStepBeginsLocal, NoStatementBeginsLocal, LocalVariablesBegin};
+ghost use Rattle.statement_laws.specs.Laws.{VariablesAreSpelled, VariablesAreRead, BlocksAreRead};
+ghost use Rattle.statement_laws.specs.Laws.{StatementsAreRead, LocalVariablesAreSpelled};
+ghost use Rattle.statement_laws.specs.Laws.{LocalVariablesAreRead, ConditionsAreRead, StepsAreRead};
+ghost use Rattle.statement_laws.specs.Laws.{GroupsAreRead, NoStepBeginsLocal};
+ghost use Rattle.statement_laws.specs.Laws.{NoStatementBeginsLocal, LocalVariablesBegin};
 ghost use Rattle.je_token.specs.declared.symbol.Symbol.TheVariants as symbol;
 
 /// Variables are read up to a semicolon: what is read is spelled and no higher than below, and what is spelled so is read.
