@@ -9,8 +9,6 @@ mod conversion;
 mod numbers;
 mod operators;
 mod outcome;
-#[cfg(test)]
-mod tests;
 
 pub use conversion::{convert, try_convert};
 pub use operators::{binary, try_binary, try_unary, unary};

@@ -34,6 +34,3 @@ pub use laws::{
     tokens_or_fault,
 };
 pub use lexer::lex;
-
-#[cfg(test)]
-mod tests;

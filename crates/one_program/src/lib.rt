@@ -16,8 +16,6 @@ mod program;
 mod scope;
 mod sizes;
 mod stmt;
-#[cfg(test)]
-mod tests;
 mod words;
 
 pub use program::{Built, build};

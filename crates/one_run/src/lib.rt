@@ -9,8 +9,6 @@
 mod answer;
 mod file;
 mod run;
-#[cfg(test)]
-mod tests;
 
 pub use answer::Answer;
 pub use file::{answer_of, answer_unique, tree_unique};

@@ -11,8 +11,6 @@ mod expressions;
 mod front;
 mod members;
 mod statements;
-#[cfg(test)]
-mod tests;
 mod tree;
 
 pub use front::{MAX_HEIGHT, read, tree_unique};

@@ -10,8 +10,6 @@ mod cut;
 mod lex;
 mod numbers;
 mod signs;
-#[cfg(test)]
-mod tests;
 mod token;
 mod words;
 

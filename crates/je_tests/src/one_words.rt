@@ -1,6 +1,6 @@
 // Texts with their tokens, and texts that have none.
-use crate::{Token, tokens};
 use je_core::{NameId, Names};
+use one_tokens::{Token, tokens};
 use std::test::Fail;
 
 const A: Token = Token::Identifier(NameId(0));

@@ -1,6 +1,6 @@
 //! Texts with their tokens or their fault.
-use super::*;
 use je_base::{NameId, Span};
+use je_lexer::*;
 use std::test::Fail;
 
 // Each token as a letter and its bytes: k keyword, i identifier, s symbol, n int, l long, c character, t text, e end.

@@ -1,7 +1,7 @@
 // The happy path of `build`.
 
-use super::*;
 use je_core::{BinOp, Names};
+use one_program::*;
 use one_syntax::{Expr, Member, One};
 use std::test::Fail;
 

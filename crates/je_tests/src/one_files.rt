@@ -1,5 +1,5 @@
 // One file of each answer.
-use crate::{Answer, answer_of};
+use one_run::{Answer, answer_of};
 use std::test::Fail;
 
 #[test]

@@ -1,7 +1,7 @@
 // Tokens that spell a One, and tokens beside them that spell none.
 
-use crate::front::read;
 use je_core::{Memory, NameId};
+use one_syntax::read;
 use one_tokens::Token;
 use std::alloc::Global;
 use std::test::Fail;

@@ -1,6 +1,6 @@
 // What Java prints, extremes included; each call once.
 
-use crate::{Outcome, binary, convert, try_binary, try_convert, try_unary, unary};
+use je_arith::{Outcome, binary, convert, try_binary, try_convert, try_unary, unary};
 use je_core::{Base, BinOp, UnOp, Value};
 
 #[test]
