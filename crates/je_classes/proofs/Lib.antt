@@ -1,4 +1,6 @@
 pub mod Lists
+pub mod Ways
+pub mod Counts
 mod Paths
 pub mod Below
 pub mod Same

@@ -1,0 +1,6 @@
+pub mod Trees
+mod Twice
+mod Unknown
+mod Cycle
+mod Profile
+mod Free

@@ -1,0 +1,11 @@
+pub mod Sites
+pub mod Headers
+pub mod Looks
+pub mod Source
+pub mod Scope
+pub mod Settled
+pub mod BinaryNames
+pub mod SourceTypes
+pub mod Members
+pub mod Faults
+pub mod Laws
