@@ -21,7 +21,7 @@ use Rattle.je_scopes.proofs.Ranges.{named-are}
 use Rattle.je_scopes.proofs.Dependence.{edge-within, complete, sound}
 use Rattle.je_scopes.proofs.First.{none_is_fault_free}
 
-with-heads : (w : Written) (t : TypeName) → Contains (heads_in w) t → is_guest w ≡ true
+pub with-heads : (w : Written) (t : TypeName) → Contains (heads_in w) t → is_guest w ≡ true
 with-heads in_library t q = absurd (nothing-in t q)
 with-heads (declared d) t q = refl
 with-heads (behind_new word u body) t q = refl
@@ -43,12 +43,12 @@ or_right true y e = refl
 or_right false y e = e
 
 module _ (p : Source) where
-  class-faults : (c : ℕ) (f : Fault) → c < length p.sites → is_guest (site_at p.sites c).written ≡ true → Contains (of_class p c) f → Contains (faults p) f
+  pub class-faults : (c : ℕ) (f : Fault) → c < length p.sites → is_guest (site_at p.sites c).written ≡ true → Contains (of_class p c) f → Contains (faults p) f
   unfolding faults
   class-faults c f l g q = in-right (flat_map (of_imports p.texts []) p.imports) (flat_map (of_class p) (guests p)) f
       (in-flat (of_class p) (guests p) c f (in-filter (λ k. is_guest (site_at p.sites k).written) (below (length p.sites)) c (in-below (length p.sites) c l) g) q)
 
-  head-faults : (c : ℕ) (t : TypeName) (f : Fault) → Contains (heads_of p c) t → Contains (of_head p c t) f → Contains (of_class p c) f
+  pub head-faults : (c : ℕ) (t : TypeName) (f : Fault) → Contains (heads_of p c) t → Contains (of_head p c t) f → Contains (of_class p c) f
   head-faults c t f q r = in-left (of_class_name p c ++ of_parameters p c ++ of_heads p c ++ of_fields p c [] (fields_of p c)) (of_methods p c [] (methods_of p c)) f
       (in-left (of_class_name p c ++ of_parameters p c ++ of_heads p c) (of_fields p c [] (fields_of p c)) f
       (in-right (of_class_name p c ++ of_parameters p c) (of_heads p c) f (in-flat (of_head p c) (heads_of p c) t f q r)))

@@ -8,4 +8,5 @@ mod Walking
 pub mod Lists
 mod Dependence
 mod Acyclic
+mod Found
 mod Rows

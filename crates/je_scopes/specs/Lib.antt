@@ -9,3 +9,4 @@ pub mod SourceTypes
 pub mod Members
 pub mod Faults
 pub mod Laws
+pub mod Found

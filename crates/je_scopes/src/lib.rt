@@ -2,6 +2,7 @@
 //! fault of a name. Definitions, and laws on them.
 #![tactic(auto)]
 
+ghost use Rattle.je_scopes.specs.Found.{MembersAreFound};
 ghost use Rattle.je_scopes.specs.Laws.{DependsIsDecided, FaultFreeIsAcyclic, SourcesHaveLibrary};
 ghost use Rattle.je_scopes.specs.Laws.{FirstIsFound, NoneIsFaultFree};
 ghost use Rattle.je_scopes.specs.Laws.{AnyOrderDecides, ReadingSettles, RoundsSuffice, SettledHolds, SettledStays};
@@ -39,4 +40,10 @@ pub fn dependence_is_decided()
     ensures decided { DependsIsDecided }
     ensures acyclic { FaultFreeIsAcyclic }
     ensures library { SourcesHaveLibrary }
+{}
+
+/// Where no name has a fault, the look-up of a member class finds nothing, one or several by the set of those that the class has under
+/// the name.
+pub fn members_are_found()
+    ensures { MembersAreFound }
 {}
