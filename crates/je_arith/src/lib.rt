@@ -12,6 +12,6 @@ mod outcome;
 #[cfg(test)]
 mod tests;
 
-pub use conversion::{convert, try_convert};
+pub use conversion::{convert, number, try_convert};
 pub use operators::{binary, try_binary, try_unary, unary};
 pub use outcome::Outcome;
