@@ -13,6 +13,7 @@ use Rattle.je_core.specs.declared.types.Base.{Base}
 use Rattle.je_core.specs.declared.types.Ty.{Ty}
 use Rattle.je_core.specs.declared.types.Base.TheVariants as base
 use Rattle.je_arith.specs.Conversion.{as_base, as_base_if, number_of}
+use Rattle.je_java.specs.Equality.{same_reference, equality, on_references, operated}
 use Rattle.je_java.specs.Compound.{is_shift, promoted, joined, compound, placed_in, given_if, placed_outcome, update_outcome}
 use Rattle.je_java.specs.Steps.{converted_in}
 use Rattle.std.specs.Prelude.{ℕ}
@@ -65,13 +66,25 @@ truths-plain BitXor a b = tt
 truths-plain BitOr a b = tt
 truths-plain _ a b = tt
 
-pub binary-plain : (op : BinOp) (a b : Value) → PlainOutcome (binary op a b)
+binary-plain : (op : BinOp) (a b : Value) → PlainOutcome (binary op a b)
 binary-plain op (value.Int x) (value.Int y) = numbers-plain w32 value.Int (λ z. tt) op x y
 binary-plain op (value.Int x) (value.Long y) = shifted-plain w32 value.Int (λ z. tt) op x y
 binary-plain op (value.Long x) (value.Int y) = shifted-plain w64 value.Long (λ z. tt) op x y
 binary-plain op (value.Long x) (value.Long y) = numbers-plain w64 value.Long (λ z. tt) op x y
 binary-plain op (value.Bool a) (value.Bool b) = truths-plain op a b
 binary-plain op _ _ = tt
+
+equality-plain : (op : BinOp) (same : Bool) → PlainOutcome (equality op same)
+equality-plain Eq same = tt
+equality-plain Ne same = tt
+equality-plain _ same = tt
+
+references-plain : (op : BinOp) (same : Option Bool) (outcome : Outcome) → PlainOutcome outcome → PlainOutcome (on_references op same outcome)
+references-plain op None outcome h = h
+references-plain op (Some same) outcome h = equality-plain op same
+
+pub operated-plain : (op : BinOp) (a b : Value) → PlainOutcome (operated op a b)
+operated-plain op a b = references-plain op (same_reference a b) (binary op a b) (binary-plain op a b)
 
 abbrev pub PlainOption : Option Value → Type 0
 PlainOption None = Unit {0}

@@ -8,14 +8,15 @@ use Rattle.je_base.specs.declared.span.NameId.{NameId}
 use Rattle.je_base.specs.declared.span.Span.{Span}
 use Rattle.je_core.specs.declared.types.ClassId.{ClassId}
 use Rattle.je_core.specs.declared.types.Ty.{Ty}
-use Rattle.je_core.specs.declared.types.Base.TheVariants.{Int as IntBase, Byte as ByteBase, Void as VoidBase, Class as ClassBase}
+use Rattle.je_core.specs.declared.types.Base.TheVariants.{Bool as BoolBase, Int as IntBase, Byte as ByteBase, Void as VoidBase, Class as ClassBase}
 use Rattle.je_core.specs.declared.value.Value.{Value}
 use Rattle.je_core.specs.declared.value.Value.TheVariants.{Int, Long, Byte, Bool as Truth, Null, Ref}
 use Rattle.je_core.specs.declared.program.Access.TheVariants.{Package}
 use Rattle.je_core.specs.declared.program.Flags.{Flags}
 use Rattle.je_core.specs.declared.program.Sort.TheVariants.{Class as ClassSort}
 use Rattle.je_core.specs.declared.program.Local.{Local as LocalOf}
-use Rattle.je_core.specs.declared.expr.BinOp.TheVariants.{Add, Sub, Div, Shl, Lt, Ne}
+use Rattle.je_core.specs.declared.expr.BinOp.{BinOp}
+use Rattle.je_core.specs.declared.expr.BinOp.TheVariants.{Add, Sub, Div, Shl, Lt, Eq, Ne}
 use Rattle.je_core.specs.declared.expr.UnOp.TheVariants.{Minus, Tilde}
 use Rattle.je_core.specs.Core.{Core, CoreForm, Const, Local, This, Field, Assign, Update, Unary, Binary, And, Or, Choose, Convert, CallVirtual, CallExact, New, CoreStmt, CoreStmtForm, Empty, Block, Do, If, Loop, DoLoop, Switch, Labelled, Jump, Return, Throw, Try, CoreCatch, catch, core_catches, CoreGroup, group, core_groups, CoreField, CoreMethod, CoreClass, CoreProgram, node, stmt, cores, maybe_core, core_stmts, maybe_stmt}
 use Rattle.je_java.specs.declared.call.Receiver.TheVariants as receiver
@@ -30,6 +31,9 @@ nowhere = record { file = 0; start = 0; end = 0 }
 
 abbrev pub int : Ty
 int = record { base = IntBase; dims = 0 }
+
+abbrev pub boolean : Ty
+boolean = record { base = BoolBase; dims = 0 }
 
 abbrev pub void : Ty
 void = record { base = VoidBase; dims = 0 }
@@ -283,6 +287,40 @@ negates = refl
 either : run (method true int [] (body (gives (expr (Or (constant (Truth true)) (constant (Truth false)))) ∷ [])) ∷ []) [] ≡ Done (Some (Truth true)) (after [] 999996 4)
 unfolding java meanings opened
 either = refl
+
+-- boolean f(A a, A b) { return a == b; } and `!=`, on one object, on two alike, on null
+abbrev compares : BinOp → List CoreMethod
+compares op = method true boolean (local_of class_a ∷ local_of class_a ∷ []) (body (gives (expr (Binary op (local 0) (local 1))) ∷ [])) ∷ []
+
+abbrev reference : ℕ → Value
+reference n = Ref (record { 0 = n })
+
+abbrev two_alike : List Obj
+two_alike = Instance (record { 0 = 0 }) [] ∷ Instance (record { 0 = 0 }) [] ∷ []
+
+abbrev run_on_two : BinOp → Value → Value → Answer
+run_on_two op a b = call (program (compares op)) 1000000 receiver.None (record { 0 = 0 }) 0 (a ∷ b ∷ []) (world two_alike) nothing
+
+one_object : run_on_two Eq (reference 1) (reference 1) ≡ Done (Some (Truth true)) (after two_alike 999995 5)
+unfolding java meanings opened
+one_object = refl
+
+two_objects : run_on_two Eq (reference 0) (reference 1) ≡ Done (Some (Truth false)) (after two_alike 999995 5)
+unfolding java meanings opened
+two_objects = refl
+
+no_object : run_on_two Ne (reference 0) Null ≡ Done (Some (Truth true)) (after two_alike 999995 5)
+unfolding java meanings opened
+no_object = refl
+
+both_null : run_on_two Eq Null Null ≡ Done (Some (Truth true)) (after two_alike 999995 5)
+unfolding java meanings opened
+both_null = refl
+
+-- no other operator takes a reference
+no_sum : run_on_two Add (reference 0) Null ≡ Wrong
+unfolding java meanings opened
+no_sum = refl
 
 -- `(byte) 200`
 abbrev byte : Ty
