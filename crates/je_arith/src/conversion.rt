@@ -6,8 +6,8 @@ ghost use Rattle.je_arith.specs.Conversion.{number_of, as_base, converted};
 
 use je_core::{Base, Value};
 
-// The number that a value is.
-fn number(a: Value) -> Option<i64>
+/// The number that a value is.
+pub fn number(a: Value) -> Option<i64>
     ensures { result ≡ number_of a }
 {
     match a {

@@ -10,6 +10,6 @@ mod numbers;
 mod operators;
 mod outcome;
 
-pub use conversion::{convert, try_convert};
+pub use conversion::{convert, number, try_convert};
 pub use operators::{binary, try_binary, try_unary, unary};
 pub use outcome::Outcome;

@@ -1,11 +1,11 @@
 -- The catches of a `try` in memory, from a place on.
-use Rattle.std.proofs.Common.{◌≡◌, ◌<◌, ◌+◌, ℕ, suc, List, ◌∷◌, length, map, drop, get_or, Some, refl, sym, ap, ◌∙◌, add-one}
+use Rattle.std.proofs.Common.{◌≡◌, ◌<◌, ◌+◌, ℕ, suc, List, ◌∷◌, length, map, drop, get_or, Some, sym, ap, ◌∙◌, add-one}
 use Rattle.std.proofs.Math.Seq.{drop-cons}
 use Rattle.std.specs.Prelude.{if◌then◌else◌}
 use Rattle.je_core.specs.declared.types.ClassId.{ClassId}
 use Rattle.je_core.specs.declared.stmt.Catch.{Catch, out-Catch}
-use Rattle.je_core.specs.Core.{CoreCatch, CoreProgram}
-use Rattle.je_core.specs.View.{catch_view, catch_layer, stmt_view}
+use Rattle.je_core.specs.Core.{CoreProgram}
+use Rattle.je_core.specs.View.{catch_view}
 use Rattle.je_core.proofs.Views.{catch_view_is}
 use Rattle.je_java.specs.Subclasses.{is_subclass}
 use Rattle.je_java.specs.Meaning.{catch_for}

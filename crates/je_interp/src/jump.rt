@@ -3,8 +3,8 @@
 ghost use Rattle.std.specs.Prelude.{◌≡◌, ◌≤◌, ◌+◌, IfOk, length};
 ghost use Rattle.je_core.specs.View.{stmt_view, stmt_form_view};
 ghost use Rattle.je_java.specs.Steps.{is_label as the_is_label};
-ghost use Rattle.je_interp.specs.Ways.{turning, landed, frame_ways, height, gives};
-ghost use Rattle.je_interp.specs.way.Clauses.{RunsAhead, RunsAheadOf};
+ghost use Rattle.je_interp.specs.Ways.{turning, landed, broken, frame_ways, height, gives};
+ghost use Rattle.je_interp.specs.way.Clauses.{IsAhead, RunsAhead, RunsAheadOf};
 ghost use Rattle.je_java.specs.Steps.{takes as the_takes};
 ghost use Rattle.je_java.specs.Meaning.{labels_of};
 
@@ -70,6 +70,18 @@ fn jump_from_labelled(
     }
 }
 
+// A jump out of the groups of a `switch`.
+fn jump_from_cases(again: bool, label: Option<NameId>) -> Control
+    ensures goes { IsAhead result (λ p m k. (broken k).out.jump again label) }
+    ensures short { gives result ≤ 1 }
+{
+    if again || label.is_some() {
+        Control::Jump { again, label }
+    } else {
+        Control::Next
+    }
+}
+
 /// A jump leaves a frame, or comes to it. No jump leaves a method's body.
 #[tactic(auto)]
 pub fn jump(
@@ -85,6 +97,7 @@ pub fn jump(
 {
     match frame {
         Frame::Body { node } => jump_from_body(node, again, label, &mut context.frames),
+        Frame::Cases { .. } => Ok(jump_from_cases(again, label)),
         Frame::Labelled { label: own, node } => {
             jump_from_labelled(own, node, again, label, &mut context.frames)
         }

@@ -1,6 +1,6 @@
 -- Worked rows: what some statements and calls come to, and what they cost.
 use Rattle.std.proofs.Common.{◌≡◌, ℕ, List, [], ◌∷◌, ◌++◌, replicate, Some, None, refl}
-use Rattle.std.specs.Prelude.{pos, negsuc, true, false, Bool, Option}
+use Rattle.std.specs.Prelude.{ℤ, pos, negsuc, true, false, Bool, Option}
 use Rattle.std.specs.Int.{int_wrap}
 use Rattle.je_core.specs.declared.object.Obj.{Obj}
 use Rattle.je_core.specs.declared.object.Obj.TheVariants.{Instance}
@@ -8,16 +8,17 @@ use Rattle.je_base.specs.declared.span.NameId.{NameId}
 use Rattle.je_base.specs.declared.span.Span.{Span}
 use Rattle.je_core.specs.declared.types.ClassId.{ClassId}
 use Rattle.je_core.specs.declared.types.Ty.{Ty}
-use Rattle.je_core.specs.declared.types.Base.TheVariants.{Int as IntBase, Byte as ByteBase, Void as VoidBase, Class as ClassBase}
+use Rattle.je_core.specs.declared.types.Base.TheVariants.{Bool as BoolBase, Int as IntBase, Byte as ByteBase, Void as VoidBase, Class as ClassBase}
 use Rattle.je_core.specs.declared.value.Value.{Value}
-use Rattle.je_core.specs.declared.value.Value.TheVariants.{Int, Byte, Bool as Truth, Null, Ref}
+use Rattle.je_core.specs.declared.value.Value.TheVariants.{Int, Long, Byte, Bool as Truth, Null, Ref}
 use Rattle.je_core.specs.declared.program.Access.TheVariants.{Package}
 use Rattle.je_core.specs.declared.program.Flags.{Flags}
 use Rattle.je_core.specs.declared.program.Sort.TheVariants.{Class as ClassSort}
 use Rattle.je_core.specs.declared.program.Local.{Local as LocalOf}
-use Rattle.je_core.specs.declared.expr.BinOp.TheVariants.{Add, Sub, Div, Lt, Ne}
+use Rattle.je_core.specs.declared.expr.BinOp.{BinOp}
+use Rattle.je_core.specs.declared.expr.BinOp.TheVariants.{Add, Sub, Div, Shl, Lt, Eq, Ne}
 use Rattle.je_core.specs.declared.expr.UnOp.TheVariants.{Minus, Tilde}
-use Rattle.je_core.specs.Core.{Core, CoreForm, Const, Local, This, Field, Assign, Unary, Binary, And, Or, Choose, Convert, CallVirtual, CallExact, New, CoreStmt, CoreStmtForm, Empty, Block, Do, If, Loop, DoLoop, Labelled, Jump, Return, Throw, Try, CoreCatch, catch, core_catches, CoreField, CoreMethod, CoreClass, CoreProgram, node, stmt, cores, maybe_core, core_stmts, maybe_stmt}
+use Rattle.je_core.specs.Core.{Core, CoreForm, Const, Local, This, Field, Assign, Update, Unary, Binary, And, Or, Choose, Convert, CallVirtual, CallExact, New, CoreStmt, CoreStmtForm, Empty, Block, Do, If, Loop, DoLoop, Switch, Labelled, Jump, Return, Throw, Try, CoreCatch, catch, core_catches, CoreGroup, group, core_groups, CoreField, CoreMethod, CoreClass, CoreProgram, node, stmt, cores, maybe_core, core_stmts, maybe_stmt}
 use Rattle.je_java.specs.declared.call.Receiver.TheVariants as receiver
 use Rattle.je_java.specs.Raised.{library_class, null_pointer, arithmetic}
 use Rattle.je_java.specs.World.{World}
@@ -30,6 +31,9 @@ nowhere = record { file = 0; start = 0; end = 0 }
 
 abbrev pub int : Ty
 int = record { base = IntBase; dims = 0 }
+
+abbrev pub boolean : Ty
+boolean = record { base = BoolBase; dims = 0 }
 
 abbrev pub void : Ty
 void = record { base = VoidBase; dims = 0 }
@@ -284,6 +288,40 @@ either : run (method true int [] (body (gives (expr (Or (constant (Truth true)) 
 unfolding java meanings opened
 either = refl
 
+-- boolean f(A a, A b) { return a == b; } and `!=`, on one object, on two alike, on null
+abbrev compares : BinOp → List CoreMethod
+compares op = method true boolean (local_of class_a ∷ local_of class_a ∷ []) (body (gives (expr (Binary op (local 0) (local 1))) ∷ [])) ∷ []
+
+abbrev reference : ℕ → Value
+reference n = Ref (record { 0 = n })
+
+abbrev two_alike : List Obj
+two_alike = Instance (record { 0 = 0 }) [] ∷ Instance (record { 0 = 0 }) [] ∷ []
+
+abbrev run_on_two : BinOp → Value → Value → Answer
+run_on_two op a b = call (program (compares op)) 1000000 receiver.None (record { 0 = 0 }) 0 (a ∷ b ∷ []) (world two_alike) nothing
+
+one_object : run_on_two Eq (reference 1) (reference 1) ≡ Done (Some (Truth true)) (after two_alike 999995 5)
+unfolding java meanings opened
+one_object = refl
+
+two_objects : run_on_two Eq (reference 0) (reference 1) ≡ Done (Some (Truth false)) (after two_alike 999995 5)
+unfolding java meanings opened
+two_objects = refl
+
+no_object : run_on_two Ne (reference 0) Null ≡ Done (Some (Truth true)) (after two_alike 999995 5)
+unfolding java meanings opened
+no_object = refl
+
+both_null : run_on_two Eq Null Null ≡ Done (Some (Truth true)) (after two_alike 999995 5)
+unfolding java meanings opened
+both_null = refl
+
+-- no other operator takes a reference
+no_sum : run_on_two Add (reference 0) Null ≡ Wrong
+unfolding java meanings opened
+no_sum = refl
+
 -- `(byte) 200`
 abbrev byte : Ty
 byte = record { base = ByteBase; dims = 0 }
@@ -481,3 +519,102 @@ spent_is_not_caught : tries 41 (try_to (forever (statement Empty) ∷ []) (caugh
     Spent (record (after [] 0 41) { own = record { this = Null; locals = Int (pos 5) ∷ Null ∷ [] } })
 unfolding java meanings opened
 spent_is_not_caught = refl
+
+-- compound assignment: the place is no node
+
+abbrev update : Core → Option Core → Bool → Core
+update place operand gives_old = expr (Update place Add (maybe_core operand) gives_old)
+
+abbrev gives_of : Core → List CoreMethod
+gives_of e = method true int (local_of int ∷ []) (body (gives e ∷ [])) ∷ []
+
+-- n++ + n and ++n + n: Block, Return, Binary, Update and Local
+old_value : run (gives_of (expr (Binary Add (update (local 0) None true) (local 0)))) (Int (pos 5) ∷ []) ≡ Done (Some (Int (pos 11))) (after [] 999995 5)
+unfolding java meanings opened int_wrap
+old_value = refl
+
+new_value : run (gives_of (expr (Binary Add (update (local 0) None false) (local 0)))) (Int (pos 5) ∷ []) ≡ Done (Some (Int (pos 12))) (after [] 999995 5)
+unfolding java meanings opened int_wrap
+new_value = refl
+
+-- n += (n = 7): the place has its value before the operand is evaluated
+old_before_operand : run (gives_of (update (local 0) (Some (expr (Assign (local 0) (constant (Int (pos 7)))))) false)) (Int (pos 5) ∷ []) ≡ Done (Some (Int (pos 12))) (after [] 999995 5)
+unfolding java meanings opened int_wrap
+old_before_operand = refl
+
+-- b++ on a byte is converted back
+byte_wraps : run (method true byte (local_of byte ∷ []) (body (gives (node (Update (local 0) Add (maybe_core None) false) byte nowhere nowhere) ∷ [])) ∷ []) (Byte (pos 127) ∷ []) ≡
+    Done (Some (Byte (negsuc 127))) (after [] 999997 3)
+unfolding java meanings opened int_wrap
+byte_wraps = refl
+
+-- n += 1L adds longs, and n <<= 33L shifts an int
+long_operand : run (gives_of (update (local 0) (Some (constant (Long (pos 1)))) false)) (Int (pos 2147483647) ∷ []) ≡ Done (Some (Int (negsuc 2147483647))) (after [] 999996 4)
+unfolding java meanings opened int_wrap
+long_operand = refl
+
+shift_operand : run (gives_of (expr (Update (local 0) Shl (maybe_core (Some (constant (Long (pos 33))))) false))) (Int (pos 5) ∷ []) ≡ Done (Some (Int (pos 10))) (after [] 999996 4)
+unfolding java meanings opened int_wrap
+shift_operand = refl
+
+-- m += 1; on the last field: the Block, Do, Update, This and Const
+update_field : call (program (method false void [] (body (does (update last_field (Some (constant (Int (pos 1)))) false) ∷ [])) ∷ [])) 1000000 (receiver.Object (record { 0 = 0 })) (record { 0 = 0 }) 0 [] (world (an_object (Int (pos 5) ∷ Int (pos 7) ∷ []))) nothing ≡
+    Done None (after (an_object (Int (pos 5) ∷ Int (pos 8) ∷ [])) 999995 5)
+unfolding java meanings opened int_wrap
+update_field = refl
+
+-- a.m += 1 on null throws before the operand begins: the Block, Do, Update and Local
+update_null : call (record { classes = (program (method true void (local_of class_a ∷ []) (body (does (update (expr (Field (local 0) (record { 0 = 0 }) 2)) (Some (constant (Int (pos 1)))) false) ∷ [])) ∷ [])).classes ++ replicate 34 empty; texts = [] })
+    1000000 receiver.None (record { 0 = 0 }) 0 (Null ∷ []) (world []) nothing ≡ Thrown (record { 0 = 0 }) (after (Instance (record { 0 = 34 }) [] ∷ []) 999996 4)
+unfolding java meanings opened null_pointer library_class
+update_null = refl
+
+-- switch
+
+abbrev case_of : Option ℤ → List CoreStmt → CoreGroup
+case_of value parts = group (record { value = value; uses = []; span = nowhere } ∷ []) (core_stmts parts)
+
+abbrev switch_on : Core → List CoreGroup → CoreStmt
+switch_on selector groups = statement (Switch [] selector (core_groups groups))
+
+abbrev becomes : ℤ → CoreStmt
+becomes z = does (expr (Assign (local 0) (constant (Int z))))
+
+-- switch (n) { case 1: n = 10; case 2: n = n + 1; break; default: n = 7; }
+abbrev switches : CoreMethod
+switches = gives_n_after (switch_on (local 0) (case_of (Some (pos 1)) (becomes (pos 10) ∷ []) ∷ case_of (Some (pos 2)) (counts ∷ breaks None ∷ []) ∷ case_of None (becomes (pos 7) ∷ []) ∷ []) ∷ [])
+
+falls_through : run (switches ∷ []) (Int (pos 1) ∷ []) ≡ Done (Some (Int (pos 11))) (after [] 999986 14)
+unfolding java meanings opened int_wrap
+falls_through = refl
+
+breaks_switch : run (switches ∷ []) (Int (pos 2) ∷ []) ≡ Done (Some (Int (pos 3))) (after [] 999989 11)
+unfolding java meanings opened int_wrap
+breaks_switch = refl
+
+takes_default : run (switches ∷ []) (Int (pos 9) ∷ []) ≡ Done (Some (Int (pos 7))) (after [] 999992 8)
+unfolding java meanings opened int_wrap
+takes_default = refl
+
+-- switch (n) { default: n = n + 1; case 1: n = n + 1; }: the default group falls through too
+abbrev default_first : CoreMethod
+default_first = gives_n_after (switch_on (local 0) (case_of None (counts ∷ []) ∷ case_of (Some (pos 1)) (counts ∷ []) ∷ []) ∷ [])
+
+default_falls : run (default_first ∷ []) (Int (pos 9) ∷ []) ≡ Done (Some (Int (pos 11))) (after [] 999985 15)
+unfolding java meanings opened int_wrap
+default_falls = refl
+
+past_default : run (default_first ∷ []) (Int (pos 1) ∷ []) ≡ Done (Some (Int (pos 2))) (after [] 999990 10)
+unfolding java meanings opened int_wrap
+past_default = refl
+
+-- no group is taken
+none_taken : run (gives_n_after (switch_on (local 0) (case_of (Some (pos 1)) (counts ∷ []) ∷ []) ∷ []) ∷ []) (Int (pos 9) ∷ []) ≡ Done (Some (Int (pos 9))) (after [] 999995 5)
+unfolding java meanings opened
+none_taken = refl
+
+-- while (n < 3) { switch (1) { case 1: n = n + 1; continue; } return 0; }: a `continue` passes by the switch
+continues_past_switch : run (gives_n_after (statement (Loop (below_three (local 0)) [] (body (switch_on (constant (Int (pos 1))) (case_of (Some (pos 1)) (counts ∷ continues None ∷ []) ∷ []) ∷ gives (constant (Int (pos 0))) ∷ []))) ∷ []) ∷ []) (Int (pos 1) ∷ []) ≡
+    Done (Some (Int (pos 3))) (after [] 999969 31)
+unfolding java meanings opened int_wrap
+continues_past_switch = refl

@@ -10,21 +10,24 @@ use Rattle.je_core.specs.declared.types.ClassId.{ClassId}
 use Rattle.je_core.specs.declared.program.Program.{Program}
 use Rattle.je_core.specs.declared.expr.Expr.{Expr}
 use Rattle.je_core.specs.declared.stmt.Stmt.{Stmt}
-use Rattle.je_core.specs.Core.{Core, CoreStmt, CoreProgram}
+use Rattle.je_core.specs.Core.{Core, CoreForm, Update, CoreStmt, CoreGroup, CoreProgram, form_of, option_of}
 use Rattle.je_core.specs.View.{view, stmt_view, program_view}
 use Rattle.je_heap.specs.Contents.{Contents}
-use Rattle.je_java.specs.Steps.{State, Outside, Own, Done, Spent, Wrong, Run, Exits, Computation, Nothing, ◌>>◌, throw, put_local, with_own, make}
-use Rattle.je_java.specs.Meaning.{Meanings, java, ends, nobody}
+use Rattle.je_java.specs.Steps.{State, Outside, Own, Done, Spent, Wrong, Run, Exits, Computation, Nothing, ◌>>◌, ret, wrong, raise, throw, put_local, with_own, make}
+use Rattle.je_java.specs.Raised.{null_pointer}
+use Rattle.je_java.specs.Meaning.{Meanings, fetched, java, ends, nobody}
 use Rattle.je_interp.specs.declared.frame.Frame.{Frame}
 use Rattle.je_interp.specs.declared.frame.Env.{Env}
 use Rattle.je_interp.specs.declared.frame.Context.{Context}
 use Rattle.je_interp.specs.declared.frame.Control.{Control}
+use Rattle.je_interp.specs.declared.frame.Fetched.{Fetched}
+use Rattle.je_interp.specs.declared.frame.Fetched.TheVariants.{Value as FetchedValue, Null as FetchedNull, Wrong as FetchedWrong}
 use Rattle.je_interp.specs.declared.frame.Made.{Made}
 use Rattle.je_interp.specs.declared.frame.Made.TheVariants.{Object, Spent as SpentMade, Wrong as WrongMade}
 use Rattle.je_interp.specs.declared.frame.Reply.{Reply}
 use Rattle.je_interp.specs.declared.machine.Next.{Next}
 use Rattle.je_interp.specs.declared.machine.Next.TheVariants.{More}
-use Rattle.je_interp.specs.Ways.{Ways, waits, resume, valued, ended, own_of, state_of, state, height, gives}
+use Rattle.je_interp.specs.Ways.{Ways, rest_of, waits, resume, valued, ended, own_of, state_of, state, height, gives}
 use Rattle.je_interp.specs.Finish.{outermost, answer_at}
 
 -- what comes to a value
@@ -189,6 +192,39 @@ abbrev pub MakesApart : Program → ClassId → Context → Contents → Context
 MakesApart program class old before new after made = (own : Own) (go : ObjId → Run) (exits : Exits) (outside : Outside) →
     made_ways made go (state_of new.units new.begun after outside own) ≡
     make (program_view program) class go exits (state_of old.units old.begun before outside own)
+
+-- a new exception of a class is thrown before the frames
+abbrev pub Raises : Program → ClassId → Context → Contents → Context → Contents → Control → Type 0
+Raises program class old before new after c = (m : Meanings) (k : Ways) (outside : Outside) →
+    resume (program_view program) m k c new.frames (state new after outside) ≡
+    make (program_view program) class (waits (program_view program) m k old.frames).out.throw (waits (program_view program) m k old.frames).out (state old before outside)
+
+-- the operand of a compound assignment
+abbrev pub operand_of : CoreForm → Option Core
+operand_of (Update place op operand gives_old) = option_of operand
+operand_of _ = None
+
+-- the value of the place of a compound assignment, whose object has one
+abbrev pub fetched_of : CoreProgram → CoreForm → Value → Computation Value
+fetched_of program (Update place op operand gives_old) object = fetched program (form_of place) object
+fetched_of program _ object = wrong
+
+-- how a run goes on with what the reading of a place came to
+abbrev pub fetched_ways : CoreProgram → Fetched → Computation Value
+fetched_ways program (FetchedValue value) = ret value
+fetched_ways program FetchedNull = raise program null_pointer
+fetched_ways program FetchedWrong = wrong
+
+-- a place's reading came to that, in a body with these variables
+abbrev pub Fetches : Program → Contents → Env → (CoreProgram → Computation Value) → Fetched → Type 0
+Fetches program heap env f found = (go : Value → Run) (exits : Exits) (units begun : ℕ) (outside : Outside) →
+    fetched_ways (program_view program) found go exits (state_of units begun heap outside (own_of env)) ≡
+    f (program_view program) go exits (state_of units begun heap outside (own_of env))
+
+-- the next statement of some groups from a place on, and the place behind it
+abbrev pub NextCase : List CoreGroup → ℕ → ℕ → Option (ℕ × ℕ × Rc Stmt Global) → Type 0
+NextCase groups at next None = rest_of groups at next ≡ []
+NextCase groups at next (Some (at', next', part)) = rest_of groups at next ≡ stmt_view part.value ∷ rest_of groups at' next'
 
 -- the next expression of a list, or its end
 abbrev pub NextExpr : List Core → ℕ → Option (Rc Expr Global) → Type 0
