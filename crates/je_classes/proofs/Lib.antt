@@ -7,3 +7,5 @@ mod Sets
 mod FieldSets
 mod MethodSets
 mod Rows
+pub mod Reaching
+pub mod Dimensions

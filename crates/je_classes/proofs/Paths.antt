@@ -46,7 +46,7 @@ unfolding IsDistinct
 way p same = record { numbers = []; path = arrived; distinct = tt }
 way p (above {c = c} {d = d} {e = e} q r) = longer p c e d q (way p r)
 
-supers-within : (p : CoreProgram) (c e : ClassId) (o : Option CoreClass) → class_at p c ≡ o → Contains (supers_in o) e → c.0 < length p.classes
+pub supers-within : (p : CoreProgram) (c e : ClassId) (o : Option CoreClass) → class_at p c ≡ o → Contains (supers_in o) e → c.0 < length p.classes
 supers-within p c e None q h = absurd (let g : h.0 < 0 = h.1 in omega arith)
 supers-within p c e (Some k) q h = slice_get_within p.classes c.0 k q
 
