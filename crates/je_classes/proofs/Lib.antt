@@ -9,3 +9,5 @@ mod Sets
 mod FieldSets
 mod MethodSets
 mod Rows
+pub mod Reaching
+pub mod Dimensions

@@ -17,7 +17,7 @@ way : (p : CoreProgram) {c d : ClassId} → Below p c d → Way (supers_of p) (�
 way p (same {c = c}) = here (supers_of p) (λ c. c.0) one_class c
 way p (above {c = c} {d = d} {e = e} q r) = longer (supers_of p) (λ c. c.0) one_class c e d q (way p r)
 
-supers-within : (p : CoreProgram) (c e : ClassId) (o : Option CoreClass) → class_at p c ≡ o → Contains (supers_in o) e → c.0 < length p.classes
+pub supers-within : (p : CoreProgram) (c e : ClassId) (o : Option CoreClass) → class_at p c ≡ o → Contains (supers_in o) e → c.0 < length p.classes
 supers-within p c e None q h = absurd (let g : h.0 < 0 = h.1 in omega arith)
 supers-within p c e (Some k) q h = slice_get_within p.classes c.0 k q
 

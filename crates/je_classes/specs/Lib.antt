@@ -6,3 +6,4 @@ pub mod Dispatch
 pub mod Fields
 pub mod Methods
 pub mod Laws
+pub mod way

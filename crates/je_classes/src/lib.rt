@@ -1,10 +1,16 @@
 //! The classes of a core program: which is below which, which slots an object of one has, and which method it has for a
-//! method. Definitions, and the laws that the tests decide what they stand for.
+//! method. Definitions, the laws that the tests decide what they stand for, and the tests of classes and types.
 #![tactic(auto)]
+
+mod reach;
+mod subtype;
 
 ghost use Rattle.je_classes.specs.Fields.{FieldsAreFound};
 ghost use Rattle.je_classes.specs.Laws.{BelowIsDecided, SubtypesAreDecided};
 ghost use Rattle.je_classes.specs.Methods.{MethodsAreFound};
+
+pub use reach::is_below;
+pub use subtype::is_subtype;
 
 /// A class is below another one exactly where a chain of supers leads there.
 pub fn below_is_decided()

@@ -18,9 +18,11 @@ use Rattle.je_core.specs.declared.program.Local.{Local as LocalOf}
 use Rattle.je_core.specs.declared.expr.BinOp.{BinOp}
 use Rattle.je_core.specs.declared.expr.BinOp.TheVariants.{Add, Sub, Div, Shl, Lt, Eq, Ne}
 use Rattle.je_core.specs.declared.expr.UnOp.TheVariants.{Minus, Tilde}
-use Rattle.je_core.specs.Core.{Core, CoreForm, Const, Local, This, Field, Assign, Update, Unary, Binary, And, Or, Choose, Convert, CallVirtual, CallExact, New, CoreStmt, CoreStmtForm, Empty, Block, Do, If, Loop, DoLoop, Switch, Labelled, Jump, Return, Throw, Try, CoreCatch, catch, core_catches, CoreGroup, group, core_groups, CoreField, CoreMethod, CoreClass, CoreProgram, node, stmt, cores, maybe_core, core_stmts, maybe_stmt}
+use Rattle.je_core.specs.Core.{Core, CoreForm, Const, Local, This, Field, Assign, Update, Unary, Binary, And, Or, Choose, Convert, Cast, InstanceOf, CallVirtual, CallExact, New, CoreStmt, CoreStmtForm, Empty, Block, Do, If, Loop, DoLoop, Switch, Labelled, Jump, Return, Throw, Try, CoreCatch, catch, core_catches, CoreGroup, group, core_groups, CoreField, CoreMethod, CoreClass, CoreProgram, node, stmt, cores, maybe_core, core_stmts, maybe_stmt}
 use Rattle.je_java.specs.declared.call.Receiver.TheVariants as receiver
-use Rattle.je_java.specs.Raised.{library_class, null_pointer, arithmetic}
+use Rattle.je_classes.specs.Hierarchy.{library_class, object_class, is_below}
+use Rattle.je_classes.specs.Subtypes.{is_subtype}
+use Rattle.je_java.specs.Raised.{null_pointer, arithmetic, class_cast}
 use Rattle.je_java.specs.World.{World}
 use Rattle.je_java.specs.Steps.{State, Outside, Answer, Done, Thrown, Spent, Wrong}
 use Rattle.je_java.specs.Meaning.{java, meanings, call}
@@ -519,6 +521,49 @@ spent_is_not_caught : tries 41 (try_to (forever (statement Empty) ∷ []) (caugh
     Spent (record (after [] 0 41) { own = record { this = Null; locals = Int (pos 5) ∷ Null ∷ [] } })
 unfolding java meanings opened
 spent_is_not_caught = refl
+
+-- casts and `instanceof`
+
+abbrev type_of : ℕ → Ty
+type_of n = record { base = ClassBase (class_number n); dims = 0 }
+
+abbrev new_of : ℕ → Core
+new_of class = expr (New (class_number class) 0 (cores []) [] nowhere)
+
+abbrev asks : Core → ℕ → List CoreStmt
+asks e class = gives (expr (InstanceOf e (type_of class))) ∷ []
+
+-- new F() instanceof E, which is above F: Block, Return, InstanceOf, New and its constructor's Block
+instance_of_above : tries 1000000 (asks (new_of 2) 1) [] ≡ Done (Some (Truth true)) (after (Instance (class_number 2) [] ∷ []) 999995 5)
+unfolding java meanings opened is_subtype is_below object_class library_class
+instance_of_above = refl
+
+-- new E() instanceof F
+instance_of_below : tries 1000000 (asks (new_of 1) 2) [] ≡ Done (Some (Truth false)) (after (Instance (class_number 1) [] ∷ []) 999995 5)
+unfolding java meanings opened is_subtype is_below object_class library_class
+instance_of_below = refl
+
+-- null is no instance of any class
+null_instance : tries 1000000 (asks (constant Null) 1) [] ≡ Done (Some (Truth false)) (after [] 999996 4)
+unfolding java meanings opened
+null_instance = refl
+
+abbrev casts : Core → ℕ → List CoreStmt
+casts e class = gives (node (Cast e) (type_of class) nowhere nowhere) ∷ []
+
+-- (E) new F(), and (F) new E(), which throws, in a program whose last class is ClassCastException
+cast_up : tries 1000000 (casts (new_of 2) 1) [] ≡ Done (Some (reference 0)) (after (Instance (class_number 2) [] ∷ []) 999995 5)
+unfolding java meanings opened is_subtype is_below object_class library_class
+cast_up = refl
+
+cast_down : tries 1000000 (casts (new_of 1) 2) (replicate 27 empty) ≡
+    Thrown (record { 0 = 1 }) (after (Instance (class_number 1) [] ∷ Instance (class_number 29) [] ∷ []) 999995 5)
+unfolding java meanings opened is_subtype is_below object_class library_class class_cast
+cast_down = refl
+
+cast_null : tries 1000000 (casts (constant Null) 1) [] ≡ Done (Some Null) (after [] 999996 4)
+unfolding java meanings opened
+cast_null = refl
 
 -- compound assignment: the place is no node
 

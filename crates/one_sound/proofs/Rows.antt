@@ -19,7 +19,8 @@ use Rattle.je_core.specs.declared.program.Local.{Local as LocalOf}
 use Rattle.je_core.specs.declared.types.Ty.{Ty}
 use Rattle.je_core.specs.declared.value.Value.TheVariants.{Int, Null}
 use Rattle.je_java.specs.declared.call.Receiver.TheVariants as receiver
-use Rattle.je_java.specs.Raised.{library_class, null_pointer}
+use Rattle.je_classes.specs.Hierarchy.{library_class}
+use Rattle.je_java.specs.Raised.{null_pointer}
 use Rattle.je_java.specs.World.{World}
 use Rattle.je_java.specs.Steps.{Done, Wrong}
 use Rattle.je_java.specs.Meaning.{java, meanings, call}
