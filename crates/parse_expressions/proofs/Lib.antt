@@ -1,1 +1,5 @@
+pub mod CreationTurns
 pub mod InitializerTurns
+pub mod OperandTurns
+pub mod OperatorTurns
+pub mod SelectionTurns
