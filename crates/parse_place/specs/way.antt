@@ -1,0 +1,5 @@
+pub mod Views
+pub mod Readings
+pub mod Readers
+pub mod Nests
+pub mod Turns
