@@ -1,2 +1,3 @@
 mod Depths
 mod Loop
+pub mod Tails
