@@ -2,7 +2,7 @@
 use Rattle.std.proofs.Common.{◌≡◌, ℕ, zero, suc, ◌<◌, ◌≤◌, List, [], ◌∷◌, length, Option, Some, None, refl, sym, subst, arith, inl, inr}
 use Rattle.std.specs.Prelude.{Bool, true, false, ◌⊎◌, slice_get}
 use Rattle.je_scopes.specs.Source.{Source}
-use Rattle.je_scopes.specs.Sites.{Site}
+use Rattle.std.proofs.lemmas.Option.{slice_get_past}
 use Rattle.je_scopes.specs.Scope.{Known}
 use Rattle.je_scopes.specs.Settled.{settled, settled_within}
 use Rattle.je_scopes.specs.Laws.{Extends, header_of, ReadingSettles, AnyOrderDecides, RoundsSuffice}
@@ -33,11 +33,6 @@ search_new f g (suc n) = by_either
     (λ w. let l : w.at < n = w.within in inr (record { at = w.at; within = omega arith; before = w.before; after = w.after }))
     (search_new f g n)
 
-past : (sites : List Site) (c : ℕ) → length sites ≤ c → slice_get sites c ≡ None
-past [] c h = refl
-past (x ∷ xs) zero h = absurd (omega arith)
-past (x ∷ xs) (suc c) h = past xs c (omega arith)
-
 known-some : (o : Option (List ℕ)) (ds : List ℕ) → o ≡ Some ds → is_known o ≡ true
 known-some o ds e = rw e refl
 
@@ -52,7 +47,7 @@ module _ (p : Source) where
   next n h = header-kept p (settled_within p (suc n)) (settled_within p n) h
 
   pub past-settled : (n c : ℕ) → length p.sites ≤ c → settled_within p (suc n) c ≡ Some []
-  past-settled n c h = let e : slice_get p.sites c ≡ None = past p.sites c h in rw e refl
+  past-settled n c h = let e : slice_get p.sites c ≡ None = slice_get_past p.sites c h in rw e refl
 
   same-known : (n c : ℕ) (ds : List ℕ) → is_known (settled_within p n c) ≡ true → settled_within p (suc n) c ≡ Some ds → settled_within p n c ≡ Some ds
   same-known n c ds k e = option-cases (settled_within p n c) (λ o. is_known o ≡ true → o ≡ Some ds) (λ f q. absurd (cc))
