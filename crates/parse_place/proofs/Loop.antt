@@ -7,7 +7,7 @@ use Rattle.parse_laws.specs.way.Tokens.{with, ◌>>=◌, is_symbol}
 use Rattle.parse_laws.specs.way.Place.{Step, has_bracket, nest, deep_opening_at, follow_quickly_at}
 use Rattle.parse_below.specs.declared.settings.Setting.{Setting}
 use Rattle.parse_place.specs.way.Readings.{item_at, opening_at}
-use Rattle.parse_place.specs.way.Turns.{Turn, over, stuck, behind, inside, is_deep_at, opened_turn_at, item_turn_at, turn_at}
+use Rattle.parse_place.specs.way.Turns.{Turn, over, stuck, behind, inside, is_deep_at, item_turn_at, turn_at}
 
 -- what the loop goes on with, `f`, after a turn
 abbrev pub after : (Context → List Token → List Token → List Token) → List Token → List Token → Turn → List Token

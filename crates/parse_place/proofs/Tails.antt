@@ -5,7 +5,6 @@ use Rattle.je_token.specs.declared.token.Token.{Token}
 use Rattle.je_ast.specs.Trees.{Expressions, Statement, Member, Declaration}
 use Rattle.je_ast.specs.Trees as tree
 use Rattle.je_base.specs.declared.span.Span.{Span}
-use Rattle.je_grammar.specs.Tokens.{IsSymbol}
 use Rattle.je_grammar.specs.Grammar.{SpellsConstructorInvocation, this_call, super_call}
 use Rattle.je_grammar.specs.Longest.{IsLongestStatement, IsLongestMember, IsLongestDeclaration}
 use Rattle.je_grammar.specs.Place.{Context, Reads, an_import, first_declaration, first_semicolon, a_declaration, semicolon_between, a_member, semicolon_in_body, a_constructor_invocation, first_statement, a_statement}

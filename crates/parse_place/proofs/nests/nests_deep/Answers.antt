@@ -1,4 +1,4 @@
-use Rattle.std.proofs.Common.{◌≡◌, [], arith, rules}
+use Rattle.std.proofs.Common.{◌≡◌, [], arith}
 use Rattle.std.proofs.lemmas.Grind.{common_steps}
 use Rattle.parse_place.proofs.Depths.{deep_at_end}
 use Rattle.parse_place.proofs.nests.nests_deep.Goals as goal
