@@ -1,0 +1,5 @@
+mod Files
+mod Imports
+mod Places
+mod Steps
+mod Turns
