@@ -29,7 +29,7 @@ fn tokens_of(alloc: Global, text: &[u8]) -> Option<Tokens>
     None
 }
 
-fn answer(alloc: Global, text: &[u8]) -> Answer {
+fn read(alloc: Global, text: &[u8]) -> Answer {
     let Some(tokens) = tokens_of(alloc, text) else {
         return Answer::NoTokens;
     };
@@ -69,7 +69,7 @@ fn files_are_read_or_have_a_place(rt: HostRuntime) -> Result<(), Fail> {
         ("; import a;", Answer::Fault(2, 8)),
     ];
     for (text, want) in rows {
-        assert_eq!(rt; answer(alloc, text.as_bytes()), want);
+        assert_eq!(rt; read(alloc, text.as_bytes()), want);
     }
     Ok(())
 }
@@ -86,7 +86,7 @@ fn in_brackets(alloc: Global, count: usize) -> Result<Answer, Fail> {
         text.push(b')')?;
     }
     text.extend_from_slice(b"; }")?;
-    Ok(answer(alloc, &text))
+    Ok(read(alloc, &text))
 }
 
 #[test]
@@ -100,8 +100,8 @@ fn trees_are_of_height_300_at_most(rt: HostRuntime) -> Result<(), Fail> {
 }
 
 // The place behind what is read at a token.
-fn behind<T: Drop>(read: Result<(T, usize), ParseFault>) -> Option<usize> {
-    match read {
+fn behind<T: Drop>(found: Result<(T, usize), ParseFault>) -> Option<usize> {
+    match found {
         Ok((_, place)) => Some(place),
         Err(_) => None,
     }
