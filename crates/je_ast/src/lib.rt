@@ -38,6 +38,3 @@ pub use operator::{BinaryOp, PostfixOp, PrefixOp};
 pub use renumbering::renumber;
 pub use stmt::{Block, Catch, ForInit, Group, Label, Stmt, Var};
 pub use ty_name::{Primitive, TyName};
-
-#[cfg(test)]
-mod tests;

@@ -18,3 +18,5 @@ mod one_grammar;
 mod one_programs;
 #[cfg(test)]
 mod one_words;
+#[cfg(test)]
+mod source_trees;

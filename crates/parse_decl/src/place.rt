@@ -12,7 +12,7 @@ use je_base::Memory;
 use je_lexer::Tokens;
 use je_token::Token;
 use parse_below::Setting;
-use parse_expr::{block_stmt_within, decl_within, expr_within, let_go, member_within, setting};
+use parse_expr::{block_stmt_within, decl_within, expr_within, member_within, setting};
 use parse_place::place_among;
 use parse_types::Read;
 use std::alloc::Global;
@@ -25,7 +25,6 @@ pub fn syntax_place(alloc: Global, tokens: &Tokens) -> Result<usize, Memory>
 {
     let setting = setting(tokens);
     let place = place_within(alloc, &setting, &tokens.list);
-    let_go(setting);
     Ok(tokens.list.len() - place?.len())
 }
 

@@ -31,9 +31,7 @@ pub fn expr(alloc: Global, tokens: &Tokens, from: usize) -> Result<(Expr, usize)
         least: 1,
     };
     let setting = setting(tokens);
-    let read = knot::expr(alloc, &setting, place);
-    knot::let_go(setting);
-    match read? {
+    match knot::expr(alloc, &setting, place)? {
         Some(found) => Ok((found.tree, place_of(tokens, found.rest))),
         None => Err(fault_at(tokens, from)),
     }
@@ -48,9 +46,7 @@ pub fn decl(alloc: Global, tokens: &Tokens, from: usize) -> Result<(Decl, usize)
     ensures none { IfErr result (NoDeclaration tokens.now from) }
 {
     let setting = setting(tokens);
-    let read = knot::decl(alloc, &setting, &tokens.list[from..]);
-    knot::let_go(setting);
-    match read? {
+    match knot::decl(alloc, &setting, &tokens.list[from..])? {
         Some(found) => Ok((found.tree, place_of(tokens, found.rest))),
         None => Err(fault_at(tokens, from)),
     }
@@ -65,9 +61,7 @@ pub fn member(alloc: Global, tokens: &Tokens, from: usize) -> Result<(Member, us
     ensures none { IfErr result (NoMember tokens.now from) }
 {
     let setting = setting(tokens);
-    let read = knot::member(alloc, &setting, &tokens.list[from..]);
-    knot::let_go(setting);
-    match read? {
+    match knot::member(alloc, &setting, &tokens.list[from..])? {
         Some(found) => Ok((found.tree, place_of(tokens, found.rest))),
         None => Err(fault_at(tokens, from)),
     }
@@ -82,9 +76,7 @@ pub fn block_stmt(alloc: Global, tokens: &Tokens, from: usize) -> Result<(Stmt, 
     ensures none { IfErr result (NoStatement tokens.now from) }
 {
     let setting = setting(tokens);
-    let read = knot::block_stmt(alloc, &setting, &tokens.list[from..]);
-    knot::let_go(setting);
-    match read? {
+    match knot::block_stmt(alloc, &setting, &tokens.list[from..])? {
         Some(found) => Ok((found.tree, place_of(tokens, found.rest))),
         None => Err(fault_at(tokens, from)),
     }

@@ -38,15 +38,6 @@ fn lower<'t>(setting: &Setting<'t>) -> Setting<'t>
     }
 }
 
-// Ends a setting, which is not `Drop`.
-pub fn let_go(setting: Setting) {
-    let Setting {
-        names: _names,
-        texts: _texts,
-        below: _below,
-    } = setting;
-}
-
 /// An expression of at least the place's level.
 #[cycle(knot)]
 #[tactic(auto, using(crate::proofs::Steps::expression_zero, crate::proofs::Steps::expression_step))]
@@ -67,7 +58,6 @@ pub fn expr<'a>(alloc: Global, setting: &Setting, place: Place<'a>) -> Read<'a, 
         ensures { IfOk result (IsBody below.entry tokens.now) }
     { body(alloc, &below, tokens) };
     let read = expression(inner, values, members, alloc, &below, place);
-    let_go(below);
     read
 }
 
@@ -88,7 +78,6 @@ pub fn initializer<'a>(alloc: Global, setting: &Setting, tokens: &'a [Token]) ->
         ensures { IfOk result (IsInitializer below.entry tokens.now) }
     { initializer(alloc, &below, tokens) };
     let read = array_initializer(values, alloc, &below, tokens);
-    let_go(below);
     read
 }
 
@@ -129,7 +118,6 @@ pub fn stmt<'a>(alloc: Global, setting: &Setting, tokens: &'a [Token]) -> Read<'
         ensures { IfOk result (IsBlock below.entry tokens.now) }
     { block(alloc, &below, tokens) };
     let read = statement(inner, values, stmts, items, blocks, alloc, &below, tokens);
-    let_go(below);
     read
 }
 
@@ -164,7 +152,6 @@ fn class_statement<'a>(alloc: Global, setting: &Setting, tokens: &'a [Token]) ->
         ensures { IfOk result (IsMember below.entry tokens.now) }
     { member(alloc, &below, tokens) };
     let read = local_class(members, alloc, &below, tokens);
-    let_go(below);
     Ok(as_statement(read?))
 }
 
@@ -183,7 +170,6 @@ fn local_variables<'a>(alloc: Global, setting: &Setting, tokens: &'a [Token]) ->
         ensures { IfOk result (IsInitializer below.entry tokens.now) }
     { initializer(alloc, &below, tokens) };
     let read = local(values, alloc, &below, tokens);
-    let_go(below);
     read
 }
 
@@ -222,7 +208,6 @@ pub fn block<'a>(alloc: Global, setting: &Setting, tokens: &'a [Token]) -> Read<
         ensures { IfOk result (IsBlockStatement below.entry tokens.now) }
     { block_stmt(alloc, &below, tokens) };
     let read = parse_statements::block(items, alloc, &below, tokens);
-    let_go(below);
     read
 }
 
@@ -252,7 +237,6 @@ pub fn member<'a>(alloc: Global, setting: &Setting, tokens: &'a [Token]) -> Read
         ensures { IfOk result (IsMember below.entry tokens.now) }
     { member(alloc, &below, tokens) };
     let read = parse_members::member(inner, values, items, blocks, members, alloc, &below, tokens);
-    let_go(below);
     read
 }
 
@@ -269,6 +253,5 @@ pub fn decl<'a>(alloc: Global, setting: &Setting, tokens: &'a [Token]) -> Read<'
         ensures { IfOk result (IsMember below.entry tokens.now) }
     { member(alloc, &below, tokens) };
     let read = declaration(members, alloc, &below, tokens);
-    let_go(below);
     read
 }

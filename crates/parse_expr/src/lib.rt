@@ -14,6 +14,6 @@ mod knot;
 pub use fault::ParseFault;
 pub use front::{MAX_HEIGHT, block_stmt, decl, expr, member, setting};
 pub use knot::{
-    block_stmt as block_stmt_within, decl as decl_within, expr as expr_within, let_go,
+    block_stmt as block_stmt_within, decl as decl_within, expr as expr_within,
     member as member_within,
 };
