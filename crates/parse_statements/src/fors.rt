@@ -13,11 +13,11 @@ ghost use Rattle.parse_statements.specs.way.Readings.{start_locals_at, ended_con
 ghost use Rattle.parse_statements.specs.way.Readings.{steps_before_at};
 
 use crate::declarators::{begins_local, variables};
-use crate::making::{each_loop, for_loop};
 use je_ast::{Expr, ForInit, Identifier, Stmt, make_locals, make_steps};
 use je_base::Span;
 use je_token::{Keyword, Symbol, Token};
 use parse_below::Setting;
+use parse_branches::{each_loop, for_loop};
 use parse_operators::is_step;
 use parse_types::{
     Found, Place, Read, behind, final_word, identifier, is_word, past_type, type_name,

@@ -9,11 +9,11 @@ ghost use Rattle.parse_statements.specs.way.Views.{seen_label};
 ghost use Rattle.parse_statements.specs.way.Readings.{label_at, break_at, continue_at, return_at};
 ghost use Rattle.parse_statements.specs.way.Readings.{throw_at, expression_statement_at};
 
-use crate::making::{break_off, go_on, throw};
 use je_ast::{Expr, Identifier, Stmt, make_expression_statement, make_return};
 use je_base::Span;
 use je_token::{Symbol, Token};
 use parse_below::Setting;
+use parse_branches::{break_off, go_on, throw};
 use parse_operators::is_step;
 use parse_types::{Found, Place, Read, behind, first_span, identifier, join};
 

@@ -7,17 +7,13 @@
 #![tactic(auto)]
 
 mod blocks;
-mod branches;
 mod declarators;
 mod fors;
 mod jumps;
-mod making;
-mod shape;
 mod statements;
 mod switches;
 mod tries;
 
 pub use blocks::{block, block_statements};
 pub use declarators::{begins_local, variables};
-pub use shape::{declaration_span, ends_short, span};
 pub use statements::{local, statement};

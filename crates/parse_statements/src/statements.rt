@@ -10,18 +10,17 @@ ghost use Rattle.parse_statements.specs.way.Readings.{statement_layer, inner_blo
 ghost use Rattle.parse_statements.specs.way.Readings.{label_or_step_at};
 
 use crate::blocks::block_statements;
-use crate::branches::{do_statement, if_statement, labelled, while_statement};
 use crate::declarators::variables;
 use crate::fors::{for_statement, label_before_colon};
 use crate::jumps::{
     break_statement, continue_statement, return_statement, step_statement, throw_statement,
 };
-use crate::making::empty;
 use crate::switches::switch_statement;
 use crate::tries::try_statement;
 use je_ast::{Block, Expr, Stmt, make_block, make_local};
 use je_token::{Keyword, Symbol, Token, TokenKind};
 use parse_below::Setting;
+use parse_branches::{do_statement, empty, if_statement, labelled, while_statement};
 use parse_types::{Found, Place, Read, behind, final_word, first_span, join, type_name};
 use std::alloc::Global;
 

@@ -13,11 +13,11 @@ ghost use Rattle.parse_statements.specs.way.Views.{GroupsHaveHeights, statements
 ghost use Rattle.parse_statements.specs.way.Readings.{switch_at, groups_at, group_at, labels_at};
 ghost use Rattle.parse_statements.specs.way.Readings.{switch_label_at, group_statements_at};
 
-use crate::branches::condition;
 use je_ast::{Expr, Group, Label, Stmt, make_switch};
 use je_base::Span;
 use je_token::{Keyword, Symbol, Token};
 use parse_below::Setting;
+use parse_branches::condition;
 use parse_types::{
     Closed, Found, Place, Read, ReadClosed, behind, behind_word, first_span, is_symbol, is_word,
     join,

@@ -67,6 +67,20 @@ fn files_are_read_or_have_a_place(rt: HostRuntime) -> Result<(), Fail> {
         ("class A { A() { ; this(); } }", Answer::Fault(18, 22)),
         ("enum E { A() }", Answer::Fault(0, 4)),
         ("; import a;", Answer::Fault(2, 8)),
+        // what is read of a member, an `if` and a `try` before what can't be
+        ("class A { int x; int f( }", Answer::Fault(17, 20)),
+        (
+            "class A { void f() { if (a) b(); else int x; } }",
+            Answer::Fault(33, 37),
+        ),
+        (
+            "class A { void f() { try { } catch (E e) { } catch (F) { } } }",
+            Answer::Fault(45, 50),
+        ),
+        (
+            "class A { void f() { try { } catch (E e) { } finally x(); } }",
+            Answer::Fault(45, 52),
+        ),
     ];
     for (text, want) in rows {
         assert_eq!(rt; read(alloc, text.as_bytes()), want);
@@ -74,28 +88,97 @@ fn files_are_read_or_have_a_place(rt: HostRuntime) -> Result<(), Fail> {
     Ok(())
 }
 
-// A field of a class whose value is a literal in so many brackets: the class, the field and the literal count too.
-fn in_brackets(alloc: Global, count: usize) -> Result<Answer, Fail> {
-    let mut text = Vec::new(alloc);
-    text.extend_from_slice(b"class A { int x = ")?;
-    for _ in 0..count {
-        text.push(b'(')?;
-    }
-    text.push(b'1')?;
-    for _ in 0..count {
-        text.push(b')')?;
-    }
-    text.extend_from_slice(b"; }")?;
-    Ok(read(alloc, &text))
+// A text with so many of one part in one another.
+#[derive(Drop)]
+struct Nest {
+    before: &'static str,
+    opening: &'static str,
+    count: usize,
+    closing: &'static str,
+    after: &'static str,
 }
 
+impl Nest {
+    fn read(&self, alloc: Global, middle: &str) -> Result<Answer, Fail> {
+        let mut text = Vec::new(alloc);
+        text.extend_from_slice(self.before.as_bytes())?;
+        for _ in 0..self.count {
+            text.extend_from_slice(self.opening.as_bytes())?;
+        }
+        text.extend_from_slice(middle.as_bytes())?;
+        for _ in 0..self.count {
+            text.extend_from_slice(self.closing.as_bytes())?;
+        }
+        text.extend_from_slice(self.after.as_bytes())?;
+        Ok(read(alloc, &text))
+    }
+}
+
+// The value of a field, under the class and the field.
+fn value(opening: &'static str, count: usize, closing: &'static str) -> Nest {
+    Nest {
+        before: "class A { int x = ",
+        opening,
+        count,
+        closing,
+        after: "; }",
+    }
+}
+
+// The body of a method, under the class, the method and the block.
+fn body(opening: &'static str, count: usize, closing: &'static str) -> Nest {
+    Nest {
+        before: "class A { void f() { ",
+        opening,
+        count,
+        closing,
+        after: " } }",
+    }
+}
+
+// Each is of height 300 around the first middle, and of height 301 around the second: then the member alone is low enough,
+// and the place is the class.
 #[test]
 fn trees_are_of_height_300_at_most(rt: HostRuntime) -> Result<(), Fail> {
     let alloc = rt.alloc();
-    assert_eq!(rt; in_brackets(alloc, 297)?, Answer::Unit);
-    // the field alone is low enough, so the place is the class
-    assert_eq!(rt; in_brackets(alloc, 298)?, Answer::Fault(0, 5));
-    assert_eq!(rt; in_brackets(alloc, 299)?, Answer::Fault(10, 13));
+    let types = Nest {
+        before: "class A { ",
+        opening: "G<",
+        count: 297,
+        closing: ">",
+        after: " x; }",
+    };
+    let rows = [
+        (value("(", 297, ")"), "1", "(1)"),
+        (value("(int) - ", 148, ""), "(1)", "((1))"),
+        (value("f(", 148, ").g"), "(1)", "((1))"),
+        (value("a[b = ", 148, "]"), "(1)", "((1))"),
+        (value("a ? b : 1 + (", 99, ")"), "1", "(1)"),
+        (value("new A() { int[] x = {", 99, "}; }"), "1", "(1)"),
+        (types, "A", "G<A>"),
+        (
+            body("if (a) { for (;;) switch (b) { case 1: ", 74, "} }"),
+            ";",
+            "{ ; }",
+        ),
+        (
+            body("class B { void f() { try { ", 59, "} finally { } } }"),
+            "{ ; }",
+            "{ { ; } }",
+        ),
+    ];
+    for (nest, middle, higher) in &rows {
+        assert_eq!(rt; nest.read(alloc, middle)?, Answer::Unit, "{}", nest.opening);
+        assert_eq!(rt;
+            nest.read(alloc, higher)?,
+            Answer::Fault(0, 5),
+            "{}",
+            nest.opening
+        );
+    }
+    // two levels more, and the field can't be read either
+    let brackets = value("(", 299, ")");
+    assert_eq!(rt; brackets.read(alloc, "1")?, Answer::Fault(10, 13));
     Ok(())
 }
 

@@ -4,7 +4,7 @@ use Rattle.je_base.specs.declared.span.Span.{Span}
 use Rattle.je_token.specs.declared.symbol.Symbol.{Symbol}
 use Rattle.je_token.specs.declared.token.Token.{Token}
 use Rattle.je_ast.specs.declared.name.Identifier.{Identifier}
-use Rattle.je_ast.specs.Trees.{Expression, Expressions, MaybeExpression, Statement, Statements, ForInitializer, Variables, Groups, Labels, Catches}
+use Rattle.je_ast.specs.Trees.{Expressions, MaybeExpression, Statement, Statements, ForInitializer, Variables, Groups, Labels, Catches}
 use Rattle.parse_laws.specs.way.Tokens.{Read, with, identifier_at}
 use Rattle.parse_laws.specs.way.Below.{BlockTree}
 use Rattle.parse_laws.specs.way.Lists.{VariableTree}
@@ -13,6 +13,7 @@ use Rattle.parse_laws.specs.way.Statements.{CatchTree, LabelTree, GroupTree, lab
 use Rattle.parse_laws.specs.way.Statements as reading
 use Rattle.parse_below.specs.declared.settings.Setting.{Setting}
 use Rattle.parse_below.specs.way.Readings.{below_at}
+use Rattle.parse_branches.specs.way.Readings.{labelled_at}
 
 abbrev pub variable_at : Setting → List Token → Read VariableTree
 variable_at s ts = reading.variable_at s.below (below_at s) ts
@@ -28,24 +29,6 @@ block_layer s ts = reading.block_layer s.below (below_at s) ts
 
 abbrev pub inner_block_at : Setting → List Token → Read Statement
 inner_block_at s ts = reading.inner_block_at s.below (below_at s) ts
-
-abbrev pub condition_at : Setting → List Token → Read Expression
-condition_at s ts = reading.condition_at s.below (below_at s) ts
-
-abbrev pub else_at : Setting → Statement → List Token → Read Statement
-else_at s b ts = reading.else_at s.below (below_at s) b ts
-
-abbrev pub if_at : Setting → Span → List Token → Read Statement
-if_at s w ts = reading.if_at s.below (below_at s) w ts
-
-abbrev pub while_at : Setting → Span → List Token → Read Statement
-while_at s w ts = reading.while_at s.below (below_at s) w ts
-
-abbrev pub do_at : Setting → Span → List Token → Read Statement
-do_at s w ts = reading.do_at s.below (below_at s) w ts
-
-abbrev pub labelled_at : Setting → Identifier → List Token → Read Statement
-labelled_at s n ts = reading.labelled_at s.below (below_at s) n ts
 
 abbrev pub break_at : Setting → Span → List Token → Read Statement
 break_at s w ts = reading.break_at s.below (below_at s) w ts

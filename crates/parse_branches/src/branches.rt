@@ -5,7 +5,7 @@ ghost use Rattle.je_ast.specs.View.{view, statement_view};
 ghost use Rattle.parse_types.specs.way.Views.{seen};
 ghost use Rattle.parse_below.specs.way.Readers.{Reads, ReadsStatements};
 ghost use Rattle.parse_below.specs.way.Views.{HasHeights, StatementHasHeight};
-ghost use Rattle.parse_statements.specs.way.Readings.{condition_at, else_at, if_at, while_at, do_at, labelled_at};
+ghost use Rattle.parse_branches.specs.way.Readings.{condition_at, else_at, if_at, while_at, do_at, labelled_at};
 
 use crate::making::{do_loop, if_else, if_only, while_loop, with_label};
 use crate::shape::ends_short;
