@@ -5,9 +5,9 @@ mod Paths
 pub mod Below
 pub mod Same
 mod Subtyping
-mod Sets
-mod FieldSets
-mod MethodSets
+pub mod Sets
+pub mod FieldSets
+pub mod MethodSets
 mod Rows
 pub mod Reaching
 pub mod Dimensions

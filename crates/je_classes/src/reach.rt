@@ -69,9 +69,9 @@ fn reach_superclass(
     }
 }
 
-// How many classes there are.
+/// How many classes a program has.
 #[tactic(auto, unfolding(je_core::specs::View::program_view))]
-fn count(program: &Program) -> usize
+pub fn class_count(program: &Program) -> usize
     ensures { result ≡ length (program_view program.now).classes }
 {
     program.classes.len()
@@ -83,7 +83,7 @@ fn reach_supers(reached: &mut Vec<ClassId>, program: &Program, class: ClassId) -
         with_all (length (program_view program.now).classes) reached.old.items
         (supers_of (program_view program.now) class)) }
 {
-    let count = count(program);
+    let count = class_count(program);
     let Some(class) = program.class(class) else {
         return Ok(());
     };
@@ -101,7 +101,7 @@ fn nth(classes: &[ClassId], at: usize) -> Option<ClassId>
 fn is_above(alloc: Global, program: &Program, own: ClassId, class: ClassId) -> Result<bool, Memory>
     ensures { IfOk result (λ above. above ≡ found (program_view program.now) own class) }
 {
-    let classes = count(program);
+    let classes = class_count(program);
     let mut reached = Vec::new(alloc);
     reach(&mut reached, classes, own)?;
     for at in 0..classes {

@@ -45,7 +45,7 @@ module _ (program : CoreProgram) where
 
   abbrev pub is_head_fit : Body → Option ClassId → Core → Bool
   is_head_fit body superclass (node (core.CallExact (a_core o) c n args) t span at) =
-      (is_this o && is_fit program body o) && (same_class c body.class || is_superclass superclass c) && is_made_by program body (method_at program c n) (types_of (list_of args)) && are_fit program body args && is_void t
+      (is_this o && is_fit program body o) && (same_class c body.class || is_superclass superclass c) && is_made_by program (method_at program c n) (types_of (list_of args)) && are_fit program body args && is_void t
   is_head_fit body superclass _ = false
 
   -- a call at the head of a constructor, and the rest
@@ -56,7 +56,7 @@ module _ (program : CoreProgram) where
 
   abbrev pub is_body_fit : Body → Option ClassId → CoreStmt → Bool
   is_body_fit body superclass (stmt (core.Block locals parts) span at) =
-      locals_there program body locals && (are_statements_fit program body no_targets parts || is_call_first body superclass parts)
+      locals_there body locals && (are_statements_fit program body no_targets parts || is_call_first body superclass parts)
   is_body_fit body superclass _ = false
 
   -- ---- methods
