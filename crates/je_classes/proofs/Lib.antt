@@ -1,7 +1,7 @@
 pub mod Lists
 pub mod Ways
 pub mod Counts
-mod Paths
+pub mod Paths
 pub mod Below
 pub mod Same
 mod Subtyping

@@ -9,7 +9,7 @@ ghost use Rattle.je_classes.specs.Fields.{FieldsAreFound};
 ghost use Rattle.je_classes.specs.Laws.{BelowIsDecided, SubtypesAreDecided};
 ghost use Rattle.je_classes.specs.Methods.{MethodsAreFound};
 
-pub use reach::{class_count, is_below};
+pub use reach::{class_count, class_in, is_below, reach_one, reach_supers};
 pub use subtype::{is_subtype, object_class};
 
 /// A class is below another one exactly where a chain of supers leads there.

@@ -218,7 +218,7 @@ module _ (p : CoreProgram) where
 
   pub method_sound : (class : ClassId) (c : CoreClass) (m : CoreMethod) → is_method_fit p class c m ≡ true → MethodFits p class c m
   method_sound class c m e =
-      let q = three {a = is_method_head_fit p class c m} {b = each_method p (λ above at k. implies (is_overridden p class m above k) (stands_for p m k))} {c = is_method_body_fit p class c m} e in
+      let q = three {a = is_method_head_fit p c m} {b = each_method p (λ above at k. implies (is_overridden p class m above k) (stands_for p m k))} {c = is_method_body_fit p class c m} e in
       let h = five {a = are_variables p m.params} {b = is_void m.returns || is_variable_type p m.returns} {c = list_all (λ d. is_some (class_at p d)) m.throws} {d = implies (is_interface_sort c.kind.sort) m.flags.is_abstract} {f = implies (is_constructor p m) (is_constructor_fit p m)} q.0 in
       let b = four {a = same_bool (is_some m.body) (is_guest class && not (m.flags.is_abstract || m.flags.is_native))} {b = are_variables p (local_types m.locals)} {c = implies (is_some m.body) (same_types (take (length m.params) (local_types m.locals)) m.params)} {d = if_there (is_body_fit p (body_of p class m) c.superclass) m.body} q.2 in
       record {
