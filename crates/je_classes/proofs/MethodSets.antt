@@ -46,7 +46,7 @@ lists p a (suc n) x {c = c} {m = m} (from_object t q e) h = in-right (declared p
 
 -- ---- the first of a list
 
-before-itself : (m : Member) → stands_before m m ≡ false
+pub before-itself : (m : Member) → stands_before m m ≡ false
 before-itself m = grind (arith, nat_tests)
 
 before-through : (m n k : Member) → stands_before n m ≡ true → stands_before k m ≡ false → stands_before k n ≡ false
@@ -107,7 +107,7 @@ module _ (p : CoreProgram) (P : Member → Type 0) (b : Member) (bs : List Membe
   best-chosen _ (are_several {m = m} {n = n} q k d) = let r = filter-in (is_concrete p) (b ∷ bs) m q in let s = filter-in (is_concrete p) (b ∷ bs) n k in
       more_concrete (bt m r.there) r.passes (bt n s.there) s.passes d
 
-choice : (p : CoreProgram) (P : Member → Type 0) (cs best : List Member) → ((m : Member) → In cs m → P m) → ((m : Member) → P m → In cs m) →
+pub choice : (p : CoreProgram) (P : Member → Type 0) (cs best : List Member) → ((m : Member) → In cs m → P m) → ((m : Member) → P m → In cs m) →
     ((m : Member) → In best m → IsBest p P m) → ((m : Member) → IsBest p P m → In best m) → IsChosen p P (IsBest p P) (chosen_of p cs best)
 choice p P [] best to of bt bo = none_fits (λ m q. elim (of m q) [ ])
 choice p P (c ∷ cs) [] to of bt bo = none_best (to c first) (λ n b. elim (bo n b) [ ])

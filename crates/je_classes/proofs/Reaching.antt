@@ -13,39 +13,39 @@ use Rattle.je_classes.proofs.Below.{same_class-refl, same_class-equal, below-to,
 use Rattle.je_classes.proofs.Lists.{bool_cases, any-contains, contains-any}
 use Rattle.je_classes.proofs.Paths.{supers-within}
 
-abbrev Has : List ClassId → ClassId → Type 0
+abbrev pub Has : List ClassId → ClassId → Type 0
 Has xs c = has xs c ≡ true
 
 -- lists with one more
 
-has-left : (xs ys : List ClassId) (c : ClassId) → Has xs c → Has (xs ++ ys) c
+pub has-left : (xs ys : List ClassId) (c : ClassId) → Has xs c → Has (xs ++ ys) c
 has-left [] ys c h = absurd cc
 has-left (x ∷ xs) ys c h = bool_cases (λ b. (b || has xs c) ≡ true → (b || has (xs ++ ys) c) ≡ true) (same_class c x) (λ _ _. refl) (λ _ k. has-left xs ys c k) h
 
-has-last : (xs : List ClassId) (c : ClassId) → Has (xs ++ c ∷ []) c
+pub has-last : (xs : List ClassId) (c : ClassId) → Has (xs ++ c ∷ []) c
 has-last [] c = rw (same_class-refl c) refl
 has-last (x ∷ xs) c = bool_cases (λ b. (b || has (xs ++ c ∷ []) c) ≡ true) (same_class c x) (λ _. refl) (λ _. has-last xs c)
 
 -- what is there once one more is
-has-more : (xs : List ClassId) (c e : ClassId) (P : ClassId → Type 0) → ((x : ClassId) → Has xs x → P x) → P c → Has (xs ++ c ∷ []) e → P e
+pub has-more : (xs : List ClassId) (c e : ClassId) (P : ClassId → Type 0) → ((x : ClassId) → Has xs x → P x) → P c → Has (xs ++ c ∷ []) e → P e
 has-more [] c e P f p h = bool_cases (λ b. same_class e c ≡ b → (b || false) ≡ true → P e) (same_class e c)
     (λ _ q _. subst P (sym (same_class-equal e c q)) p) (λ _ _ k. absurd cc) refl h
 has-more (x ∷ xs) c e P f p h = bool_cases (λ b. same_class e x ≡ b → (b || has (xs ++ c ∷ []) e) ≡ true → P e) (same_class e x)
     (λ _ q _. f e (rw q refl))
     (λ _ q k. has-more xs c e P (λ y r. f y (bool_cases (λ b. (b || has xs y) ≡ true) (same_class y x) (λ _. refl) (λ _. r))) p k) refl h
 
-get-left : (xs ys : List ClassId) (i : ℕ) (c : ClassId) → slice_get xs i ≡ Some c → slice_get (xs ++ ys) i ≡ Some c
+pub get-left : (xs ys : List ClassId) (i : ℕ) (c : ClassId) → slice_get xs i ≡ Some c → slice_get (xs ++ ys) i ≡ Some c
 get-left [] ys i c h = absurd (none-some c h)
 get-left (x ∷ xs) ys zero c h = h
 get-left (x ∷ xs) ys (suc i) c h = get-left xs ys i c h
 
 -- the place of a class
-record Placed (xs : List ClassId) (c : ClassId) : Type 0 where
-  place : ℕ
-  below : place < length xs
-  is : slice_get xs place ≡ Some c
+pub record Placed (xs : List ClassId) (c : ClassId) : Type 0 where
+  pub place : ℕ
+  pub below : place < length xs
+  pub is : slice_get xs place ≡ Some c
 
-placed : (xs : List ClassId) (c : ClassId) → Has xs c → Placed xs c
+pub placed : (xs : List ClassId) (c : ClassId) → Has xs c → Placed xs c
 placed [] c h = absurd cc
 placed (x ∷ xs) c h = bool_cases (λ b. same_class c x ≡ b → (b || has xs c) ≡ true → Placed (x ∷ xs) c) (same_class c x)
     (λ _ q _. record { place = 0; below = omega arith; is = ap Some (sym (same_class-equal c x q)) })
@@ -53,14 +53,14 @@ placed (x ∷ xs) c h = bool_cases (λ b. same_class c x ≡ b → (b || has xs 
 
 -- each number once
 
-abbrev numbers : List ClassId → List ℕ
+abbrev pub numbers : List ClassId → List ℕ
 numbers xs = map (λ (c : ClassId). c.0) xs
 
-number-any : (xs : List ClassId) (n : ℕ) → list_any (nat_eq n) (numbers xs) ≡ has xs (record { 0 = n })
+pub number-any : (xs : List ClassId) (n : ℕ) → list_any (nat_eq n) (numbers xs) ≡ has xs (record { 0 = n })
 number-any [] n = refl
 number-any (x ∷ xs) n = ap (λ b. nat_eq n x.0 || b) (number-any xs n)
 
-length-numbers : (xs : List ClassId) → length (numbers xs) ≡ length xs
+pub length-numbers : (xs : List ClassId) → length (numbers xs) ≡ length xs
 length-numbers [] = refl
 length-numbers (x ∷ xs) = ap suc (length-numbers xs)
 
@@ -68,10 +68,10 @@ none-last : (n m : ℕ) (xs : List ClassId) → nat_eq n m ≡ false → AllByRe
 none-last n m [] e a = (e, tt)
 none-last n m (x ∷ xs) e a = (a.0, none-last n m xs e a.1)
 
-abbrev Once : List ClassId → Type 0
+abbrev pub Once : List ClassId → Type 0
 Once xs = IsDistinct nat_eq (numbers xs)
 
-once-last : (xs : List ClassId) (c : ClassId) → Once xs → has xs c ≡ false → Once (xs ++ c ∷ [])
+pub once-last : (xs : List ClassId) (c : ClassId) → Once xs → has xs c ≡ false → Once (xs ++ c ∷ [])
 unfolding IsDistinct
 once-last [] c u h = (tt, tt)
 once-last (x ∷ xs) c u h = bool_cases (λ b. same_class c x ≡ b → (b || has xs c) ≡ false → Once (x ∷ (xs ++ c ∷ []))) (same_class c x)
@@ -88,61 +88,85 @@ module _ (n : ℕ) where
       (λ _ l. bool_cases (λ b. has xs c ≡ b → P (if not b then xs ++ c ∷ [] else xs)) (has xs c) (λ _ h. stay (λ _. h)) (λ _ h. add l h) refl)
       (λ _ l. stay (λ k. absurd cc)) refl
 
-  reached-has : (xs : List ClassId) (c e : ClassId) → Has xs e → Has (with_reached n xs c) e
+  pub reached-has : (xs : List ClassId) (c e : ClassId) → Has xs e → Has (with_reached n xs c) e
   reached-has xs c e h = reached-cases (λ ys. Has ys e) xs c (λ _ _. has-left xs (c ∷ []) e h) (λ _. h)
 
-  reached-new : (xs : List ClassId) (c : ClassId) → nat_lt c.0 n ≡ true → Has (with_reached n xs c) c
+  pub reached-new : (xs : List ClassId) (c : ClassId) → nat_lt c.0 n ≡ true → Has (with_reached n xs c) c
   reached-new xs c l = reached-cases (λ ys. Has ys c) xs c (λ _ _. has-last xs c) (λ h. h l)
 
-  reached-only : (xs : List ClassId) (c : ClassId) (P : ClassId → Type 0) → ((x : ClassId) → Has xs x → P x) → (nat_lt c.0 n ≡ true → P c) → (e : ClassId) → Has (with_reached n xs c) e → P e
+  pub reached-only : (xs : List ClassId) (c : ClassId) (P : ClassId → Type 0) → ((x : ClassId) → Has xs x → P x) → (nat_lt c.0 n ≡ true → P c) → (e : ClassId) → Has (with_reached n xs c) e → P e
   reached-only xs c P f p = reached-cases (λ ys. (e : ClassId) → Has ys e → P e) xs c (λ l _ e h. has-more xs c e P f (p l) h) (λ _. f)
 
-  reached-get : (xs : List ClassId) (c : ClassId) (i : ℕ) (e : ClassId) → slice_get xs i ≡ Some e → slice_get (with_reached n xs c) i ≡ Some e
+  pub reached-get : (xs : List ClassId) (c : ClassId) (i : ℕ) (e : ClassId) → slice_get xs i ≡ Some e → slice_get (with_reached n xs c) i ≡ Some e
   reached-get xs c i e h = reached-cases (λ ys. slice_get ys i ≡ Some e) xs c (λ _ _. get-left xs (c ∷ []) i e h) (λ _. h)
 
-  reached-once : (xs : List ClassId) (c : ClassId) → Once xs → Once (with_reached n xs c)
+  pub reached-once : (xs : List ClassId) (c : ClassId) → Once xs → Once (with_reached n xs c)
   reached-once xs c u = reached-cases Once xs c (λ _ h. once-last xs c u h) (λ _. u)
 
   -- the same of a list
 
-  all-has : (xs cs : List ClassId) (e : ClassId) → Has xs e → Has (with_all n xs cs) e
+  pub all-has : (xs cs : List ClassId) (e : ClassId) → Has xs e → Has (with_all n xs cs) e
   all-has xs [] e h = h
   all-has xs (c ∷ cs) e h = all-has (with_reached n xs c) cs e (reached-has xs c e h)
 
-  all-new : (xs cs : List ClassId) (e : ClassId) → Has cs e → nat_lt e.0 n ≡ true → Has (with_all n xs cs) e
+  pub all-new : (xs cs : List ClassId) (e : ClassId) → Has cs e → nat_lt e.0 n ≡ true → Has (with_all n xs cs) e
   all-new xs [] e h l = absurd cc
   all-new xs (c ∷ cs) e h l = bool_cases (λ b. same_class e c ≡ b → (b || has cs e) ≡ true → Has (with_all n (with_reached n xs c) cs) e) (same_class e c)
       (λ _ q _. all-has (with_reached n xs c) cs e (subst (λ (z : ClassId). Has (with_reached n xs z) e) (same_class-equal e c q) (reached-new xs e l)))
       (λ _ _ k. all-new (with_reached n xs c) cs e k l) refl h
 
-  all-only : (xs cs : List ClassId) (P : ClassId → Type 0) → ((x : ClassId) → Has xs x → P x) → ((x : ClassId) → Has cs x → nat_lt x.0 n ≡ true → P x) → (e : ClassId) → Has (with_all n xs cs) e → P e
+  pub all-only : (xs cs : List ClassId) (P : ClassId → Type 0) → ((x : ClassId) → Has xs x → P x) → ((x : ClassId) → Has cs x → nat_lt x.0 n ≡ true → P x) → (e : ClassId) → Has (with_all n xs cs) e → P e
   all-only xs [] P f g = f
   all-only xs (c ∷ cs) P f g = all-only (with_reached n xs c) cs P (reached-only xs c P f (λ l. g c (rw (same_class-refl c) refl) l))
       (λ x h l. g x (bool_cases (λ b. (b || has cs x) ≡ true) (same_class x c) (λ _. refl) (λ _. h)) l)
 
-  all-get : (xs cs : List ClassId) (i : ℕ) (e : ClassId) → slice_get xs i ≡ Some e → slice_get (with_all n xs cs) i ≡ Some e
+  pub all-get : (xs cs : List ClassId) (i : ℕ) (e : ClassId) → slice_get xs i ≡ Some e → slice_get (with_all n xs cs) i ≡ Some e
   all-get xs [] i e h = h
   all-get xs (c ∷ cs) i e h = all-get (with_reached n xs c) cs i e (reached-get xs c i e h)
 
-  all-once : (xs cs : List ClassId) → Once xs → Once (with_all n xs cs)
+  pub all-once : (xs cs : List ClassId) → Once xs → Once (with_all n xs cs)
   all-once xs [] u = u
   all-once xs (c ∷ cs) u = all-once (with_reached n xs c) cs (reached-once xs c u)
 
-  within-length : (xs : List ClassId) → Once xs → ((e : ClassId) → Has xs e → nat_lt e.0 n ≡ true) → length xs ≤ n
+  pub within-length : (xs : List ClassId) → Once xs → ((e : ClassId) → Has xs e → nat_lt e.0 n ≡ true) → length xs ≤ n
   within-length xs u w = subst (λ k. k ≤ n) (length-numbers xs) (length-le_from_distinct_below (numbers xs) n u
       (λ k h. let l : nat_lt k n ≡ true = w (record { 0 = k }) (sym (number-any xs k) ∙ h) in grind (arith, nat_tests)))
+
+-- members, and places within the length
+
+pub has-contained : (cs : List ClassId) (e : ClassId) → Contains cs e → Has cs e
+has-contained cs e q = any-contains (same_class e) cs e q (same_class-refl e)
+
+pub contained : (cs : List ClassId) (e : ClassId) → Has cs e → Contains cs e
+contained cs e h = let q = contains-any (same_class e) cs h in subst (Contains cs) (sym (same_class-equal e q.element q.passes)) q.there
+
+pub past : (xs : List ClassId) (at : ℕ) → slice_get xs at ≡ None → length xs ≤ at
+past [] at e = omega arith
+past (x ∷ xs) zero e = absurd (none-some x (sym e))
+past (x ∷ xs) (suc at) e = let h = past xs at e in omega (arith, h)
+
+pub get-first : (xs : List ClassId) (i : ℕ) (c : ClassId) → i < length xs → (ys : List ClassId) → ((j : ℕ) (x : ClassId) → slice_get xs j ≡ Some x → slice_get ys j ≡ Some x) → slice_get ys i ≡ Some c → slice_get xs i ≡ Some c
+get-first xs i c l ys f h = by (slice_get xs i) refl
+  where
+    by : (o : Option ClassId) → slice_get xs i ≡ o → o ≡ Some c
+    by None e = absurd (let k = past xs i e in omega arith)
+    by (Some x) e = sym (f i x e) ∙ h
+
+pub within-get : (xs : List ClassId) (i : ℕ) (c : ClassId) → slice_get xs i ≡ Some c → i < length xs
+within-get [] i c e = absurd (none-some c e)
+within-get (x ∷ xs) zero c e = omega arith
+within-get (x ∷ xs) (suc i) c e = let h = within-get xs i c e in omega (arith, h)
+
+pub has-got : (ys : List ClassId) (i : ℕ) (c : ClassId) → slice_get ys i ≡ Some c → Has ys c
+has-got [] i c e = absurd (none-some c e)
+has-got (y ∷ ys) zero c e = let q : y ≡ c = same_Some y c e in rw q (rw (same_class-refl c) refl)
+has-got (y ∷ ys) (suc i) c e = bool_cases (λ b. (b || has ys c) ≡ true) (same_class c y) (λ _. refl) (λ _. has-got ys i c e)
 
 -- the walk
 
 module _ (p : CoreProgram) (own d : ClassId) where
   abbrev n : ℕ
   n = length p.classes
-
-  has-contained : (cs : List ClassId) (e : ClassId) → Contains cs e → Has cs e
-  has-contained cs e q = any-contains (same_class e) cs e q (same_class-refl e)
-
-  contained : (cs : List ClassId) (e : ClassId) → Has cs e → Contains cs e
-  contained cs e h = let q = contains-any (same_class e) cs h in subst (Contains cs) (sym (same_class-equal e q.element q.passes)) q.there
 
   below-further : {c d e : ClassId} → Below p c d → Contains (supers_of p d) e → Below p c e
   below-further same q = above q same
@@ -156,11 +180,6 @@ module _ (p : CoreProgram) (own d : ClassId) where
   sound zero at xs f h = absurd cc
   sound (suc left) at xs f h = by (slice_get xs at) refl h (sound left (suc at))
     where
-      has-got : (ys : List ClassId) (i : ℕ) (c : ClassId) → slice_get ys i ≡ Some c → Has ys c
-      has-got [] i c e = absurd (none-some c e)
-      has-got (y ∷ ys) zero c e = let q : y ≡ c = same_Some y c e in rw q (rw (same_class-refl c) refl)
-      has-got (y ∷ ys) (suc i) c e = bool_cases (λ b. (b || has ys c) ≡ true) (same_class c y) (λ _. refl) (λ _. has-got ys i c e)
-
       by : (o : Option ClassId) → slice_get xs at ≡ o → found_at (found_from p d left (suc at)) p d xs o ≡ true →
           ((ys : List ClassId) → AllBelow ys → found_from p d left (suc at) ys ≡ true → Below p own d) → Below p own d
       by None e k more = absurd cc
@@ -191,23 +210,6 @@ module _ (p : CoreProgram) (own d : ClassId) where
           let place = placed xs c (h below) in
           let next = w.closed place.place c (omega (arith, place.below, l)) place.is k q in
           never k r next.0 next.1
-
-  past : (xs : List ClassId) (at : ℕ) → slice_get xs at ≡ None → length xs ≤ at
-  past [] at e = omega arith
-  past (x ∷ xs) zero e = absurd (none-some x (sym e))
-  past (x ∷ xs) (suc at) e = let h = past xs at e in omega (arith, h)
-
-  get-first : (xs : List ClassId) (i : ℕ) (c : ClassId) → i < length xs → (ys : List ClassId) → ((j : ℕ) (x : ClassId) → slice_get xs j ≡ Some x → slice_get ys j ≡ Some x) → slice_get ys i ≡ Some c → slice_get xs i ≡ Some c
-  get-first xs i c l ys f h = by (slice_get xs i) refl
-    where
-      by : (o : Option ClassId) → slice_get xs i ≡ o → o ≡ Some c
-      by None e = absurd (let k = past xs i e in omega arith)
-      by (Some x) e = sym (f i x e) ∙ h
-
-  within-get : (xs : List ClassId) (i : ℕ) (c : ClassId) → slice_get xs i ≡ Some c → i < length xs
-  within-get [] i c e = absurd (none-some c e)
-  within-get (x ∷ xs) zero c e = omega arith
-  within-get (x ∷ xs) (suc i) c e = let h = within-get xs i c e in omega (arith, h)
 
   -- a class more is walked
   walk : (at : ℕ) (xs : List ClassId) (c : ClassId) → Walked at xs → slice_get xs at ≡ Some c → has (supers_of p c) d ≡ false → Walked (suc at) (with_all n xs (supers_of p c))

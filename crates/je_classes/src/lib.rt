@@ -9,8 +9,8 @@ ghost use Rattle.je_classes.specs.Fields.{FieldsAreFound};
 ghost use Rattle.je_classes.specs.Laws.{BelowIsDecided, SubtypesAreDecided};
 ghost use Rattle.je_classes.specs.Methods.{MethodsAreFound};
 
-pub use reach::is_below;
-pub use subtype::is_subtype;
+pub use reach::{class_count, class_in, is_below, reach_one, reach_supers};
+pub use subtype::{is_subtype, object_class};
 
 /// A class is below another one exactly where a chain of supers leads there.
 pub fn below_is_decided()

@@ -34,8 +34,8 @@ fn names(program: &Program, class: ClassId, sought: ClassId) -> bool
     }
 }
 
-// One more class is reached, unless it was, or there is none of that number among so many.
-fn reach(reached: &mut Vec<ClassId>, count: usize, class: ClassId) -> Result<(), Memory>
+/// One more class is reached, unless it was, or there is none of that number among so many.
+pub fn reach_one(reached: &mut Vec<ClassId>, count: usize, class: ClassId) -> Result<(), Memory>
     ensures { OnOk result (reached.new.items ≡ with_reached count reached.old.items class) }
 {
     if (class.0 as usize) < count && !has(reached, class) {
@@ -48,7 +48,7 @@ fn reach_all(reached: &mut Vec<ClassId>, count: usize, classes: &[ClassId]) -> R
     ensures { OnOk result (reached.new.items ≡ with_all count reached.old.items classes.now) }
 {
     for class in classes {
-        reach(reached, count, *class)?;
+        reach_one(reached, count, *class)?;
     }
     Ok(())
 }
@@ -64,26 +64,30 @@ fn reach_superclass(
         with_all count reached.old.items (with_superclass superclass interfaces)) }
 {
     match superclass {
-        Some(superclass) => reach(reached, count, superclass),
+        Some(superclass) => reach_one(reached, count, superclass),
         None => Ok(()),
     }
 }
 
-// How many classes there are.
+/// How many classes a program has.
 #[tactic(auto, unfolding(je_core::specs::View::program_view))]
-fn count(program: &Program) -> usize
+pub fn class_count(program: &Program) -> usize
     ensures { result ≡ length (program_view program.now).classes }
 {
     program.classes.len()
 }
 
-// The supers of a class are reached.
-fn reach_supers(reached: &mut Vec<ClassId>, program: &Program, class: ClassId) -> Result<(), Memory>
+/// The supers of a class are reached, each unless it was.
+pub fn reach_supers(
+    reached: &mut Vec<ClassId>,
+    program: &Program,
+    class: ClassId,
+) -> Result<(), Memory>
     ensures { OnOk result (reached.new.items ≡
         with_all (length (program_view program.now).classes) reached.old.items
         (supers_of (program_view program.now) class)) }
 {
-    let count = count(program);
+    let count = class_count(program);
     let Some(class) = program.class(class) else {
         return Ok(());
     };
@@ -91,7 +95,8 @@ fn reach_supers(reached: &mut Vec<ClassId>, program: &Program, class: ClassId) -
     reach_all(reached, count, &class.interfaces)
 }
 
-fn nth(classes: &[ClassId], at: usize) -> Option<ClassId>
+/// The class at a place of some.
+pub fn class_in(classes: &[ClassId], at: usize) -> Option<ClassId>
     ensures { result ≡ slice_get classes.now at }
 {
     classes.get(at).copied()
@@ -101,11 +106,11 @@ fn nth(classes: &[ClassId], at: usize) -> Option<ClassId>
 fn is_above(alloc: Global, program: &Program, own: ClassId, class: ClassId) -> Result<bool, Memory>
     ensures { IfOk result (λ above. above ≡ found (program_view program.now) own class) }
 {
-    let classes = count(program);
+    let classes = class_count(program);
     let mut reached = Vec::new(alloc);
-    reach(&mut reached, classes, own)?;
+    reach_one(&mut reached, classes, own)?;
     for at in 0..classes {
-        let Some(next) = nth(&reached, at) else {
+        let Some(next) = class_in(&reached, at) else {
             return Ok(false);
         };
         if names(program, next, class) {

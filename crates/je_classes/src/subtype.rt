@@ -10,9 +10,9 @@ use je_core::{Base, ClassId, Memory, Program, Ty};
 use je_table::LibraryClass;
 use std::alloc::Global;
 
-// Object.
+/// Object.
 #[tactic(auto, unfolding(crate::specs::Hierarchy::library_class, crate::specs::Hierarchy::object_class))]
-fn object_class() -> ClassId
+pub fn object_class() -> ClassId
     ensures { result ≡ the_object_class }
 {
     ClassId(LibraryClass::Object.number())

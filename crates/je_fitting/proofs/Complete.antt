@@ -70,32 +70,32 @@ module _ (p : CoreProgram) (b : Body) where
   pairs-same [] = refl
   pairs-same (x ∷ xs) = let n : nat_eq x.1 x.1 ≡ true = grind (arith, nat_tests) in both (both (same_class-refl x.0) n) (pairs-same xs)
 
-  begun : (l : Option ℕ) (t : Ty) → Begins p b l t → begins_as p b l ≡ Some t
+  begun : (l : Option ℕ) (t : Ty) → Begins p b l t → begins_as b l ≡ Some t
   begun _ _ (at_local q) = q
   begun _ _ (at_this q) = rw q refl
 
-  stepped : (t : Ty) (c : ClassId) (o : Option CoreField) (f : CoreField) → o ≡ Some f → is_subtype p t (class_type c) ≡ true → f.is_static ≡ false → is_hidden_access f.access ≡ true → is_step_on p b t c o ≡ true
+  stepped : (t : Ty) (c : ClassId) (o : Option CoreField) (f : CoreField) → o ≡ Some f → is_subtype p t (class_type c) ≡ true → f.is_static ≡ false → is_hidden_access f.access ≡ true → is_step_on p t c o ≡ true
   stepped t c None f e s g h = absurd cc
   stepped t c (Some k) f e s g h = let q : k ≡ f = cc in
       subst (λ (z : CoreField). (is_subtype p t (class_type c) && not z.is_static && is_hidden_access z.access) ≡ true) (sym q) (both (both s (is_not g)) h)
 
-  typed : (o : Option CoreField) (f : CoreField) → o ≡ Some f → field_type p b o ≡ Some f.ty
+  typed : (o : Option CoreField) (f : CoreField) → o ≡ Some f → field_type o ≡ Some f.ty
   typed None f e = absurd cc
   typed (Some k) f e = let q : k ≡ f = cc in ap (λ (z : CoreField). Some z.ty) q
 
-  led : (s : Ty) (path : List (ClassId × ℕ)) (u : Ty) → Leads p b s path u → leads_to p b (Some s) path ≡ Some u
+  led : (s : Ty) (path : List (ClassId × ℕ)) (u : Ty) → Leads p b s path u → leads_to p (Some s) path ≡ Some u
   led _ _ _ here = refl
   led s _ u (through {c = c} {at = n} {f = f} {path = path} q there own hidden rest) =
       rw (stepped s c (field_at p c n) f there q own hidden, typed (field_at p c n) f there) (led f.ty path u rest)
 
-  goes : (u : Ty) (o : Option CoreField) (f : CoreField) → o ≡ Some f → agrees p u f.ty ≡ true → goes_to p b (Some u) o ≡ true
+  goes : (u : Ty) (o : Option CoreField) (f : CoreField) → o ≡ Some f → agrees p u f.ty ≡ true → goes_to p (Some u) o ≡ true
   goes u None f e a = absurd cc
   goes u (Some k) f e a = let q : k ≡ f = cc in subst (λ (z : CoreField). agrees p u z.ty ≡ true) (sym q) a
 
   capture-complete : (c : CoreCapture) → CaptureFits p b c → capture_fits p b c ≡ true
   capture-complete c k =
-      let from : begins_as p b c.local ≡ Some k.from = begun c.local k.from k.begins in
-      let to : leads_to p b (Some k.from) c.path ≡ Some k.to = led k.from c.path k.to k.leads in
+      let from : begins_as b c.local ≡ Some k.from = begun c.local k.from k.begins in
+      let to : leads_to p (Some k.from) c.path ≡ Some k.to = led k.from c.path k.to k.leads in
       rw (from, to) (goes k.to (field_at p c.class c.field) k.field k.there k.agree)
 
   captures-complete : (class : ClassId) (cs : List CoreCapture) → CapturesFit p b class cs → captures_fit p b class cs ≡ true
@@ -109,19 +109,19 @@ module _ (p : CoreProgram) (b : Body) where
 
   -- ---- methods
 
-  a-virtual : (o : Option CoreMethod) (m : CoreMethod) (args : List Ty) → o ≡ Some m → m.flags.is_static ≡ false → is_constructor p m ≡ false → all_agree p args m.params ≡ true → is_virtual p b o args m.returns ≡ true
+  a-virtual : (o : Option CoreMethod) (m : CoreMethod) (args : List Ty) → o ≡ Some m → m.flags.is_static ≡ false → is_constructor p m ≡ false → all_agree p args m.params ≡ true → is_virtual p o args m.returns ≡ true
   a-virtual None m args e s k a = absurd cc
-  a-virtual (Some n) m args e s k a = let q : n ≡ m = cc in subst (λ (z : CoreMethod). is_virtual p b (Some z) args m.returns ≡ true) (sym q) (both (both (both (is_not s) (is_not k)) a) (same m.returns))
+  a-virtual (Some n) m args e s k a = let q : n ≡ m = cc in subst (λ (z : CoreMethod). is_virtual p (Some z) args m.returns ≡ true) (sym q) (both (both (both (is_not s) (is_not k)) a) (same m.returns))
 
   an-exact : (received : Bool) (o : Option CoreMethod) (m : CoreMethod) (args : List Ty) → o ≡ Some m → (received || m.flags.is_static) ≡ true → m.flags.is_abstract ≡ false → is_constructor p m ≡ false →
-      all_agree p args m.params ≡ true → is_exact p b received o args m.returns ≡ true
+      all_agree p args m.params ≡ true → is_exact p received o args m.returns ≡ true
   an-exact received None m args e r s k a = absurd cc
   an-exact received (Some n) m args e r s k a = let q : n ≡ m = cc in
-      subst (λ (z : CoreMethod). is_exact p b received (Some z) args m.returns ≡ true) (sym q) (both (both (both (both r (is_not s)) (is_not k)) a) (same m.returns))
+      subst (λ (z : CoreMethod). is_exact p received (Some z) args m.returns ≡ true) (sym q) (both (both (both (both r (is_not s)) (is_not k)) a) (same m.returns))
 
-  pub made-by : (o : Option CoreMethod) (m : CoreMethod) (args : List Ty) → o ≡ Some m → is_constructor p m ≡ true → all_agree p args m.params ≡ true → is_made_by p b o args ≡ true
+  pub made-by : (o : Option CoreMethod) (m : CoreMethod) (args : List Ty) → o ≡ Some m → is_constructor p m ≡ true → all_agree p args m.params ≡ true → is_made_by p o args ≡ true
   made-by None m args e k a = absurd cc
-  made-by (Some n) m args e k a = let q : n ≡ m = cc in subst (λ (z : CoreMethod). is_made_by p b (Some z) args ≡ true) (sym q) (both k a)
+  made-by (Some n) m args e k a = let q : n ≡ m = cc in subst (λ (z : CoreMethod). is_made_by p (Some z) args ≡ true) (sym q) (both k a)
 
   can-be : (o : Option CoreClass) (k : CoreClass) → o ≡ Some k → can_be_made k ≡ true → can_be_made_in o ≡ true
   can-be None k e c = absurd cc

@@ -1,8 +1,8 @@
-mod Booleans
+pub mod Booleans
 mod Sound
 mod Complete
 mod StatementsDecided
-mod Quantified
+pub mod Quantified
 mod MembersDecided
 mod ClassesDecided
 mod FirstMisfit

@@ -114,7 +114,7 @@ module _ (p : CoreProgram) where
 
   head-sound : (b : Body) (s : Option ClassId) (e : Core) → is_head_fit p b s e ≡ true → HeadFits p b s e
   head-sound b s (node (core.CallExact (a_core o) c n args) t span at) h =
-      let q = five {a = is_this o && is_fit p b o} {b = same_class c b.class || is_superclass s c} {c = is_made_by p b (method_at p c n) (types_of (list_of args))} {d = are_fit p b args} {f = is_void t} h in
+      let q = five {a = is_this o && is_fit p b o} {b = same_class c b.class || is_superclass s c} {c = is_made_by p (method_at p c n) (types_of (list_of args))} {d = are_fit p b args} {f = is_void t} h in
       let m = makes p b (method_at p c n) (types_of (list_of args)) q.2 in
       subst (λ (u : Ty). HeadFits p b s (node (core.CallExact (a_core o) c n args) u span at)) (sym (same_type-equal t void q.4))
       (head_call (two {a = is_this o} {b = is_fit p b o} q.0).0 (sound p b o (two {a = is_this o} {b = is_fit p b o} q.0).1) (callee b s c q.1) m.1 m.2 (all_sound p b args q.3) m.3)
@@ -164,7 +164,7 @@ module _ (p : CoreProgram) where
   call-sound b s locals (more_stmts (stmt (core.Block ns ss) span' at') parts) span at l h = absurd cc
 
   body-sound : (b : Body) (s : Option ClassId) (x : CoreStmt) → is_body_fit p b s x ≡ true → BodyFits p b s x
-  body-sound b s (stmt (core.Block locals parts) span at) h = let q = two {a = locals_there p b locals} {b = are_statements_fit p b no_targets parts || is_call_first p b s parts} h in
+  body-sound b s (stmt (core.Block locals parts) span at) h = let q = two {a = locals_there b locals} {b = are_statements_fit p b no_targets parts || is_call_first p b s parts} h in
       by (or_cases (are_statements_fit p b no_targets parts) (is_call_first p b s parts) q.1) (locals-sound p b locals q.0)
     where
       by : (are_statements_fit p b no_targets parts ≡ true) ⊎ (is_call_first p b s parts ≡ true) → LocalsThere p b locals → BodyFits p b s (stmt (core.Block locals parts) span at)
@@ -183,7 +183,7 @@ module _ (p : CoreProgram) where
   body-sound b s (stmt (core.Try w ks k) span at) h = absurd cc
 
   body-complete : (b : Body) (s : Option ClassId) (x : CoreStmt) → BodyFits p b s x → is_body_fit p b s x ≡ true
-  body-complete b s _ (a_block {locals = locals} {parts = parts} k) = let q = two {a = locals_there p b locals} {b = are_statements_fit p b no_targets parts} (statement_complete p b no_targets _ k) in
+  body-complete b s _ (a_block {locals = locals} {parts = parts} k) = let q = two {a = locals_there b locals} {b = are_statements_fit p b no_targets parts} (statement_complete p b no_targets _ k) in
       both q.0 (or_left (are_statements_fit p b no_targets parts) (is_call_first p b s parts) q.1)
   body-complete b s _ (behind_a_call {locals = locals} {call = call} {parts = parts} {span' = span'} {at' = at'} c l k r) =
       let code : is_constructor_code b.code ≡ true = rw c refl in
@@ -218,7 +218,7 @@ module _ (p : CoreProgram) where
 
   pub method_sound : (class : ClassId) (c : CoreClass) (m : CoreMethod) → is_method_fit p class c m ≡ true → MethodFits p class c m
   method_sound class c m e =
-      let q = three {a = is_method_head_fit p class c m} {b = each_method p (λ above at k. implies (is_overridden p class m above k) (stands_for p m k))} {c = is_method_body_fit p class c m} e in
+      let q = three {a = is_method_head_fit p c m} {b = each_method p (λ above at k. implies (is_overridden p class m above k) (stands_for p m k))} {c = is_method_body_fit p class c m} e in
       let h = five {a = are_variables p m.params} {b = is_void m.returns || is_variable_type p m.returns} {c = list_all (λ d. is_some (class_at p d)) m.throws} {d = implies (is_interface_sort c.kind.sort) m.flags.is_abstract} {f = implies (is_constructor p m) (is_constructor_fit p m)} q.0 in
       let b = four {a = same_bool (is_some m.body) (is_guest class && not (m.flags.is_abstract || m.flags.is_native))} {b = are_variables p (local_types m.locals)} {c = implies (is_some m.body) (same_types (take (length m.params) (local_types m.locals)) m.params)} {d = if_there (is_body_fit p (body_of p class m) c.superclass) m.body} q.2 in
       record {

@@ -43,10 +43,10 @@ pub places-pass : (test : ℕ → Bool) (n : ℕ) → ((i : ℕ) → i < n → t
 places-pass test zero f = refl
 places-pass test (suc n) f = list_all-append test (places_up_to n) (n ∷ []) ∙ both (places-pass test n (λ i lt. f i (omega arith))) (both (f n (omega arith)) refl)
 
-method-within : (p : CoreProgram) (c : ClassId) (n : ℕ) (k : CoreMethod) → method_at p c n ≡ Some k → n < length (methods_of p c)
+pub method-within : (p : CoreProgram) (c : ClassId) (n : ℕ) (k : CoreMethod) → method_at p c n ≡ Some k → n < length (methods_of p c)
 method-within p c n k e = slice_get_within (methods_of p c) n k e
 
-class-within : (p : CoreProgram) (c : ClassId) (n : ℕ) (k : CoreMethod) (o : Option CoreClass) → class_at p c ≡ o → slice_get (methods_in o) n ≡ Some k → c.0 < length p.classes
+pub class-within : (p : CoreProgram) (c : ClassId) (n : ℕ) (k : CoreMethod) (o : Option CoreClass) → class_at p c ≡ o → slice_get (methods_in o) n ≡ Some k → c.0 < length p.classes
 class-within p c n k None q e = absurd (let z : n < 0 = slice_get_within [] n k e in omega arith)
 class-within p c n k (Some x) q e = slice_get_within p.classes c.0 x q
 

@@ -106,32 +106,32 @@ module _ (p : CoreProgram) (b : Body) where
       let k : x ≡ y = ap (λ (c : ClassId). (c, x.1)) (same_class-equal x.0 y.0 r.0) ∙ ap (λ (m : ℕ). (y.0, m)) n in
       ap (λ (z : ClassId × ℕ). z ∷ xs) k ∙ ap (λ (zs : List (ClassId × ℕ)). y ∷ zs) (pairs-equal xs ys q.1)
 
-  lead-on : (s : Ty) (x : ClassId × ℕ) (path : List (ClassId × ℕ)) (u : Ty) → ((t : Ty) → leads_to p b (Some t) path ≡ Some u → Leads p b t path u) → (o : Option CoreField) → field_at p x.0 x.1 ≡ o →
-      (if is_step_on p b s x.0 o then leads_to p b (field_type p b o) path else None) ≡ Some u → Leads p b s (x ∷ path) u
+  lead-on : (s : Ty) (x : ClassId × ℕ) (path : List (ClassId × ℕ)) (u : Ty) → ((t : Ty) → leads_to p (Some t) path ≡ Some u → Leads p b t path u) → (o : Option CoreField) → field_at p x.0 x.1 ≡ o →
+      (if is_step_on p s x.0 o then leads_to p (field_type o) path else None) ≡ Some u → Leads p b s (x ∷ path) u
   lead-on s x path u further None q e = absurd cc
-  lead-on s x path u further (Some f) q e = bool_cases (λ k. is_step_on p b s x.0 (Some f) ≡ k → (if k then leads_to p b (Some f.ty) path else None) ≡ Some u → Leads p b s (x ∷ path) u) (is_step_on p b s x.0 (Some f))
+  lead-on s x path u further (Some f) q e = bool_cases (λ k. is_step_on p s x.0 (Some f) ≡ k → (if k then leads_to p (Some f.ty) path else None) ≡ Some u → Leads p b s (x ∷ path) u) (is_step_on p s x.0 (Some f))
       (λ _ h j. let r = three {a = is_subtype p s (class_type x.0)} {b = not f.is_static} {c = is_hidden_access f.access} h in through r.0 q (is_false r.1) r.2 (further f.ty j))
       (λ _ h j. absurd cc) refl e
 
-  lead : (s : Ty) (path : List (ClassId × ℕ)) (u : Ty) → leads_to p b (Some s) path ≡ Some u → Leads p b s path u
+  lead : (s : Ty) (path : List (ClassId × ℕ)) (u : Ty) → leads_to p (Some s) path ≡ Some u → Leads p b s path u
   lead s [] u e = let q : s ≡ u = cc in subst (λ (t : Ty). Leads p b s [] t) q here
   lead s (x ∷ path) u e = lead-on s x path u (λ t h. lead t path u h) (field_at p x.0 x.1) refl e
 
-  capture-from : (c : CoreCapture) (o : Option Ty) → begins_as p b c.local ≡ o → (u : Option Ty) → leads_to p b o c.path ≡ u → (g : Option CoreField) → field_at p c.class c.field ≡ g →
-      goes_to p b u g ≡ true → CaptureFits p b c
+  capture-from : (c : CoreCapture) (o : Option Ty) → begins_as b c.local ≡ o → (u : Option Ty) → leads_to p o c.path ≡ u → (g : Option CoreField) → field_at p c.class c.field ≡ g →
+      goes_to p u g ≡ true → CaptureFits p b c
   capture-from c o q None k g h e = absurd cc
   capture-from c o q (Some u) k None h e = absurd cc
   capture-from c None q (Some u) k (Some f) h e = absurd cc
   capture-from c (Some t) q (Some u) k (Some f) h e = record { from = t; to = u; field = f; begins = begins c.local t q; leads = lead t c.path u k; there = h; agree = e }
     where
-      begins : (l : Option ℕ) (t : Ty) → begins_as p b l ≡ Some t → Begins p b l t
+      begins : (l : Option ℕ) (t : Ty) → begins_as b l ≡ Some t → Begins p b l t
       begins (Some n) t e = at_local e
       begins None t e = bool_cases (λ k. b.is_static ≡ k → (if k then None else Some (class_type b.class)) ≡ Some t → Begins p b None t) b.is_static
           (λ g h j. absurd cc)
           (λ g h j. let r : class_type b.class ≡ t = cc in subst (λ (u : Ty). Begins p b None u) r (at_this h)) refl e
 
   capture-sound : (c : CoreCapture) → capture_fits p b c ≡ true → CaptureFits p b c
-  capture-sound c e = capture-from c (begins_as p b c.local) refl (leads_to p b (begins_as p b c.local) c.path) refl (field_at p c.class c.field) refl e
+  capture-sound c e = capture-from c (begins_as b c.local) refl (leads_to p (begins_as b c.local) c.path) refl (field_at p c.class c.field) refl e
 
   captures-sound : (class : ClassId) (cs : List CoreCapture) → captures_fit p b class cs ≡ true → CapturesFit p b class cs
   captures-sound class cs e = let q = two e in record {
@@ -152,16 +152,16 @@ module _ (p : CoreProgram) (b : Body) where
     agree : all_agree p args m.params ≡ true
     type : m.returns ≡ t
 
-  a-virtual : (o : Option CoreMethod) (args : List Ty) (t : Ty) → is_virtual p b o args t ≡ true → AMethod o args t (λ m. not m.flags.is_static && not (is_constructor p m))
+  a-virtual : (o : Option CoreMethod) (args : List Ty) (t : Ty) → is_virtual p o args t ≡ true → AMethod o args t (λ m. not m.flags.is_static && not (is_constructor p m))
   a-virtual None args t e = absurd cc
   a-virtual (Some m) args t e = let q = four {a = not m.flags.is_static} {b = not (is_constructor p m)} e in record { m = m; there = refl; passes = both q.0 q.1; agree = q.2; type = same_type-equal m.returns t q.3 }
 
-  an-exact : (received : Bool) (o : Option CoreMethod) (args : List Ty) (t : Ty) → is_exact p b received o args t ≡ true →
+  an-exact : (received : Bool) (o : Option CoreMethod) (args : List Ty) (t : Ty) → is_exact p received o args t ≡ true →
       AMethod o args t (λ m. (received || m.flags.is_static) && not m.flags.is_abstract && not (is_constructor p m))
   an-exact received None args t e = absurd cc
   an-exact received (Some m) args t e = let q = five {a = received || m.flags.is_static} {b = not m.flags.is_abstract} {c = not (is_constructor p m)} e in record { m = m; there = refl; passes = both (both q.0 q.1) q.2; agree = q.3; type = same_type-equal m.returns t q.4 }
 
-  pub makes : (o : Option CoreMethod) (args : List Ty) → is_made_by p b o args ≡ true → (m : CoreMethod) × (o ≡ Some m) × (is_constructor p m ≡ true) × (all_agree p args m.params ≡ true)
+  pub makes : (o : Option CoreMethod) (args : List Ty) → is_made_by p o args ≡ true → (m : CoreMethod) × (o ≡ Some m) × (is_constructor p m ≡ true) × (all_agree p args m.params ≡ true)
   makes None args e = absurd cc
   makes (Some m) args e = let q = two e in (m, refl, q.0, q.1)
 

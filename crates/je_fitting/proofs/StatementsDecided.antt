@@ -33,32 +33,32 @@ module _ (p : CoreProgram) (b : Body) where
   each-passes [] a = refl
   each-passes (x ∷ es) a = both (complete p b x (All-head (Fits p b) x es a)) (each-passes es (All-tail (Fits p b) x es a))
 
-  pub locals-sound : (ns : List ℕ) → locals_there p b ns ≡ true → LocalsThere p b ns
+  pub locals-sound : (ns : List ℕ) → locals_there b ns ≡ true → LocalsThere p b ns
   locals-sound [] e = All-nil (λ n. n < length b.locals)
   locals-sound (n ∷ ns) e = let q = two e in
       let h : n < length b.locals = let g : nat_lt n (length b.locals) ≡ true = q.0 in grind (arith, nat_tests) in
       All-cons (λ n. n < length b.locals) n ns h (locals-sound ns q.1)
 
-  pub locals-complete : (ns : List ℕ) → LocalsThere p b ns → locals_there p b ns ≡ true
+  pub locals-complete : (ns : List ℕ) → LocalsThere p b ns → locals_there b ns ≡ true
   locals-complete [] a = refl
   locals-complete (n ∷ ns) a =
       let h : n < length b.locals = All-head (λ n. n < length b.locals) n ns a in
       let g : nat_lt n (length b.locals) ≡ true = grind (arith, nat_tests) in
       both g (locals-complete ns (All-tail (λ n. n < length b.locals) n ns a))
 
-  uses-sound : (us : List Use) → uses_there p b us ≡ true → are_there p us
+  uses-sound : (us : List Use) → uses_there p us ≡ true → are_there p us
   uses-sound [] e = All-nil (λ (u : Use). is_some (field_at p u.class u.field) ≡ true)
   uses-sound (u ∷ us) e = let q = two e in All-cons (λ (u : Use). is_some (field_at p u.class u.field) ≡ true) u us q.0 (uses-sound us q.1)
 
-  uses-complete : (us : List Use) → are_there p us → uses_there p b us ≡ true
+  uses-complete : (us : List Use) → are_there p us → uses_there p us ≡ true
   uses-complete [] a = refl
   uses-complete (u ∷ us) a = both (All-head (λ (u : Use). is_some (field_at p u.class u.field) ≡ true) u us a) (uses-complete us (All-tail (λ (u : Use). is_some (field_at p u.class u.field) ≡ true) u us a))
 
-  labels-sound : (ls : List CoreLabel) → labels_fit p b ls ≡ true → All (λ (l : CoreLabel). are_there p l.uses) ls
+  labels-sound : (ls : List CoreLabel) → labels_fit p ls ≡ true → All (λ (l : CoreLabel). are_there p l.uses) ls
   labels-sound [] e = All-nil (λ (l : CoreLabel). are_there p l.uses)
   labels-sound (l ∷ ls) e = let q = two e in All-cons (λ (l : CoreLabel). are_there p l.uses) l ls (uses-sound l.uses q.0) (labels-sound ls q.1)
 
-  labels-complete : (ls : List CoreLabel) → All (λ (l : CoreLabel). are_there p l.uses) ls → labels_fit p b ls ≡ true
+  labels-complete : (ls : List CoreLabel) → All (λ (l : CoreLabel). are_there p l.uses) ls → labels_fit p ls ≡ true
   labels-complete [] a = refl
   labels-complete (l ∷ ls) a = both (uses-complete l.uses (All-head (λ (l : CoreLabel). are_there p l.uses) l ls a)) (labels-complete ls (All-tail (λ (l : CoreLabel). are_there p l.uses) l ls a))
 

@@ -55,7 +55,16 @@ pred (suc n) = n
 abbrev pub element_of : Ty → Ty
 element_of t = record { base = t.base; dims = pred t.dims }
 
-module _ (program : CoreProgram) (body : Body) where
+-- a local's type, or that of `this`
+abbrev pub begins_as : Body → Option ℕ → Option Ty
+begins_as body (Some n) = slice_get body.locals n
+begins_as body None = if body.is_static then None else Some (class_type body.class)
+
+abbrev pub field_type : Option CoreField → Option Ty
+field_type None = None
+field_type (Some f) = Some f.ty
+
+module _ (program : CoreProgram) where
   abbrev pub uses_there : List Use → Bool
   uses_there uses = list_all (λ (u : Use). is_some (field_at program u.class u.field)) uses
 
@@ -77,17 +86,9 @@ module _ (program : CoreProgram) (body : Body) where
   is_made_by None args = false
   is_made_by (Some m) args = is_constructor program m && all_agree program args m.params
 
-  abbrev pub begins_as : Option ℕ → Option Ty
-  begins_as (Some n) = slice_get body.locals n
-  begins_as None = if body.is_static then None else Some (class_type body.class)
-
   abbrev pub is_step_on : Ty → ClassId → Option CoreField → Bool
   is_step_on t c None = false
   is_step_on t c (Some f) = is_subtype program t (class_type c) && not f.is_static && is_hidden_access f.access
-
-  abbrev pub field_type : Option CoreField → Option Ty
-  field_type None = None
-  field_type (Some f) = Some f.ty
 
   -- the type to which a path leads
   abbrev pub leads_to : Option Ty → List (ClassId × ℕ) → Option Ty
@@ -99,8 +100,9 @@ module _ (program : CoreProgram) (body : Body) where
   goes_to (Some t) (Some f) = agrees program t f.ty
   goes_to _ _ = false
 
+module _ (program : CoreProgram) (body : Body) where
   abbrev pub capture_fits : CoreCapture → Bool
-  capture_fits c = goes_to (leads_to (begins_as c.local) c.path) (field_at program c.class c.field)
+  capture_fits c = goes_to program (leads_to program (begins_as body c.local) c.path) (field_at program c.class c.field)
 
   abbrev pub captures_fit : ClassId → List CoreCapture → Bool
   captures_fit class captures = same_pairs (map (λ (c : CoreCapture). (c.class, c.field)) captures) (handed_over program class) && list_all capture_fits captures
@@ -117,8 +119,8 @@ module _ (program : CoreProgram) (body : Body) where
     is_fit (node form t span at) = is_form_fit form t
 
     pub is_form_fit : CoreForm → Ty → Bool
-    is_form_fit (core.Const v uses) t = gives_type (type_of_value v) t && uses_there uses
-    is_form_fit (core.Text units uses) t = same_type string t && stands_once units && uses_there uses
+    is_form_fit (core.Const v uses) t = gives_type (type_of_value v) t && uses_there program uses
+    is_form_fit (core.Text units uses) t = same_type string t && stands_once program units && uses_there program uses
     is_form_fit (core.Local n) t = gives_type (slice_get body.locals n) t
     is_form_fit core.This t = not body.is_static && same_type (class_type body.class) t
     is_form_fit (core.Field o c n) t = is_fit o && is_subtype program (ty_of o) (class_type c) && is_field false (field_at program c n) t
@@ -136,10 +138,10 @@ module _ (program : CoreProgram) (body : Body) where
     is_form_fit (core.Cast e) t = is_fit e && is_reference (ty_of e) && is_reference t && is_variable_type program t
     is_form_fit (core.InstanceOf e u) t = is_fit e && is_reference (ty_of e) && is_reference u && is_variable_type program u && same_type bool t
     is_form_fit (core.Concat l r) t = is_fit l && is_fit r && joins (ty_of l) (ty_of r) && same_type string t
-    is_form_fit (core.CallVirtual o c n args) t = is_fit o && is_subtype program (ty_of o) (class_type c) && are_fit args && is_virtual (method_at program c n) (types_of (list_of args)) t
-    is_form_fit (core.CallExact o c n args) t = is_maybe_fit c o && are_fit args && is_exact (is_there_core o) (method_at program c n) (types_of (list_of args)) t
+    is_form_fit (core.CallVirtual o c n args) t = is_fit o && is_subtype program (ty_of o) (class_type c) && are_fit args && is_virtual program (method_at program c n) (types_of (list_of args)) t
+    is_form_fit (core.CallExact o c n args) t = is_maybe_fit c o && are_fit args && is_exact program (is_there_core o) (method_at program c n) (types_of (list_of args)) t
     is_form_fit (core.New c n args captures word) t =
-        can_be_made_in (class_at program c) && is_made_by (method_at program c n) (types_of (list_of args)) && are_fit args && captures_fit c captures && same_type (class_type c) t
+        can_be_made_in (class_at program c) && is_made_by program (method_at program c n) (types_of (list_of args)) && are_fit args && captures_fit c captures && same_type (class_type c) t
     is_form_fit (core.NewArray lengths) t = are_fit lengths && list_all is_int (types_of (list_of lengths)) && nat_le 1 (length (list_of lengths)) && nat_le (length (list_of lengths)) t.dims && is_variable_type program t
     is_form_fit (core.ArrayOf values) t = are_fit values && nat_lt 0 t.dims && list_all (λ v. agrees program v (element_of t)) (types_of (list_of values)) && is_variable_type program (element_of t)
 

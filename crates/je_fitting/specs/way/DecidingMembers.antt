@@ -45,7 +45,7 @@ module _ (program : CoreProgram) where
 
   abbrev pub is_head_fit : Body → Option ClassId → Core → Bool
   is_head_fit body superclass (node (core.CallExact (a_core o) c n args) t span at) =
-      (is_this o && is_fit program body o) && (same_class c body.class || is_superclass superclass c) && is_made_by program body (method_at program c n) (types_of (list_of args)) && are_fit program body args && is_void t
+      (is_this o && is_fit program body o) && (same_class c body.class || is_superclass superclass c) && is_made_by program (method_at program c n) (types_of (list_of args)) && are_fit program body args && is_void t
   is_head_fit body superclass _ = false
 
   -- a call at the head of a constructor, and the rest
@@ -56,7 +56,7 @@ module _ (program : CoreProgram) where
 
   abbrev pub is_body_fit : Body → Option ClassId → CoreStmt → Bool
   is_body_fit body superclass (stmt (core.Block locals parts) span at) =
-      locals_there program body locals && (are_statements_fit program body no_targets parts || is_call_first body superclass parts)
+      locals_there body locals && (are_statements_fit program body no_targets parts || is_call_first body superclass parts)
   is_body_fit body superclass _ = false
 
   -- ---- methods
@@ -70,8 +70,8 @@ module _ (program : CoreProgram) where
   abbrev pub is_constructor_fit : CoreMethod → Bool
   is_constructor_fit m = not m.flags.is_static && not m.flags.is_abstract && is_void m.returns
 
-  abbrev pub is_method_head_fit : ClassId → CoreClass → CoreMethod → Bool
-  is_method_head_fit class c m =
+  abbrev pub is_method_head_fit : CoreClass → CoreMethod → Bool
+  is_method_head_fit c m =
       are_variables m.params && (is_void m.returns || is_variable_type program m.returns) && list_all (λ d. is_some (class_at program d)) m.throws &&
       implies (is_interface_sort c.kind.sort) m.flags.is_abstract && implies (is_constructor program m) (is_constructor_fit m)
 
@@ -81,7 +81,7 @@ module _ (program : CoreProgram) where
       implies (is_some m.body) (same_types (take (length m.params) (local_types m.locals)) m.params) && if_there (is_body_fit (body_of program class m) c.superclass) m.body
 
   abbrev pub is_method_fit : ClassId → CoreClass → CoreMethod → Bool
-  is_method_fit class c m = is_method_head_fit class c m && each_method program (λ above at k. implies (is_overridden class m above k) (stands_for m k)) && is_method_body_fit class c m
+  is_method_fit class c m = is_method_head_fit c m && each_method program (λ above at k. implies (is_overridden class m above k) (stands_for m k)) && is_method_body_fit class c m
 
   -- ---- initializers
 

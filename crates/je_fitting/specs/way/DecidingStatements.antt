@@ -19,24 +19,24 @@ abbrev pub is_loop_label : Option Bool → Bool
 is_loop_label None = false
 is_loop_label (Some b) = b
 
+abbrev pub locals_there : Body → List ℕ → Bool
+locals_there body ns = list_all (λ n. nat_lt n (length body.locals)) ns
+
+abbrev pub labels_fit : CoreProgram → List CoreLabel → Bool
+labels_fit program ls = list_all (λ (l : CoreLabel). uses_there program l.uses) ls
+
+-- of a jump: `continue` where `again` is true
+abbrev pub can_jump : Targets → Bool → Option NameId → Bool
+can_jump j false None = j.has_break
+can_jump j false (Some name) = is_some (label_of j.labels name)
+can_jump j true None = j.has_continue
+can_jump j true (Some name) = is_loop_label (label_of j.labels name)
+
 module _ (program : CoreProgram) (body : Body) where
   abbrev pub gives_value : Option Ty → Option Core → Bool
   gives_value None value = false
   gives_value (Some t) None = is_void t
   gives_value (Some t) (Some e) = is_fit program body e && agrees program (ty_of e) t
-
-  abbrev pub locals_there : List ℕ → Bool
-  locals_there ns = list_all (λ n. nat_lt n (length body.locals)) ns
-
-  abbrev pub labels_fit : List CoreLabel → Bool
-  labels_fit ls = list_all (λ (l : CoreLabel). uses_there program body l.uses) ls
-
-  -- of a jump: `continue` where `again` is true
-  abbrev pub can_jump : Targets → Bool → Option NameId → Bool
-  can_jump j false None = j.has_break
-  can_jump j false (Some name) = is_some (label_of j.labels name)
-  can_jump j true None = j.has_continue
-  can_jump j true (Some name) = is_loop_label (label_of j.labels name)
 
   abbrev mutual
     pub is_statement_fit : Targets → CoreStmt → Bool
@@ -44,12 +44,12 @@ module _ (program : CoreProgram) (body : Body) where
 
     pub is_form_fit : Targets → CoreStmtForm → Bool
     is_form_fit j core.Empty = true
-    is_form_fit j (core.Block locals parts) = locals_there locals && are_statements_fit j parts
+    is_form_fit j (core.Block locals parts) = locals_there body locals && are_statements_fit j parts
     is_form_fit j (core.Do e) = is_fit program body e
     is_form_fit j (core.If c chosen other) = is_fit program body c && is_bool (ty_of c) && is_statement_fit j chosen && is_maybe_fit j other
     is_form_fit j (core.Loop c steps inner) = is_fit program body c && is_bool (ty_of c) && list_all (is_fit program body) steps && is_statement_fit (in_loop j) inner
     is_form_fit j (core.DoLoop inner c) = is_statement_fit (in_loop j) inner && is_fit program body c && is_bool (ty_of c)
-    is_form_fit j (core.Switch locals selector groups) = locals_there locals && is_fit program body selector && is_selector (ty_of selector) && are_groups_fit (in_switch j) groups
+    is_form_fit j (core.Switch locals selector groups) = locals_there body locals && is_fit program body selector && is_selector (ty_of selector) && are_groups_fit (in_switch j) groups
     is_form_fit j (core.Labelled name inner) = is_statement_fit (labelled_by name inner j) inner
     is_form_fit j (core.Jump again label) = can_jump j again label
     is_form_fit j (core.Return value) = gives_value body.returns value
@@ -66,7 +66,7 @@ module _ (program : CoreProgram) (body : Body) where
 
     pub are_groups_fit : Targets → CoreGroups → Bool
     are_groups_fit j no_groups = true
-    are_groups_fit j (more_groups (group labels parts) gs) = labels_fit labels && are_statements_fit j parts && are_groups_fit j gs
+    are_groups_fit j (more_groups (group labels parts) gs) = labels_fit program labels && are_statements_fit j parts && are_groups_fit j gs
 
     pub are_catches_fit : Targets → CoreCatches → Bool
     are_catches_fit j no_catches = true

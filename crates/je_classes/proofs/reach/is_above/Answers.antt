@@ -21,7 +21,7 @@ returns-then-names c =
     let at = c.loop-at.at in
     let xs = c.loop-at.reached.items in
     let here : slice_get xs at ≡ Some c.in-Some.next = ap (λ ys. slice_get ys at) (sym c.deref.ensures.value) ∙ sym c.in-Some.ensures in
-    let more : 0 < length p.classes - at = omega (arith, c.loop-at-test.true, c.count-classes.ensures) in
+    let more : 0 < length p.classes - at = omega (arith, c.loop-at-test.true, c.class_count-classes.ensures) in
     sym (found_super p d (length p.classes - at) at xs c.in-Some.next more here (sym c.names.ensures ∙ c.if-names.true)) ∙ c.loop-at.invariant
 
 pub loop-at-preserved : goal.loop-at-preserved
@@ -31,7 +31,7 @@ loop-at-preserved c =
     let at = c.loop-at.at in
     let xs = c.loop-at.reached.items in
     let here : slice_get xs at ≡ Some c.in-Some.next = ap (λ ys. slice_get ys at) (sym c.deref.ensures.value) ∙ sym c.in-Some.ensures in
-    let more : 0 < length p.classes - at = omega (arith, c.loop-at-test.true, c.count-classes.ensures) in
+    let more : 0 < length p.classes - at = omega (arith, c.loop-at-test.true, c.class_count-classes.ensures) in
     let less : length p.classes - (at + 1) ≡ length p.classes - at - 1 = omega arith in
     (λ i. found_from p d (less i) (at + 1) (c.in_ok-reach_supers.ensures i))
     ∙ sym (found_further p d (length p.classes - at) at xs c.in-Some.next more here (sym c.names.ensures ∙ c.if-names.false)) ∙ c.loop-at.invariant
@@ -42,5 +42,5 @@ returns c =
     let d = c.args.class in
     let at = c.loop-at.at in
     let xs = c.loop-at.reached.items in
-    let none : length p.classes - at ≡ 0 = omega (arith, c.loop-at-test.false, c.count-classes.ensures) in
+    let none : length p.classes - at ≡ 0 = omega (arith, c.loop-at-test.false, c.class_count-classes.ensures) in
     sym (ap (λ left. found_from p d left at xs) none ∙ found_over p d at xs) ∙ c.loop-at.invariant
