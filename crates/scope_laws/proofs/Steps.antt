@@ -26,6 +26,7 @@ module _ (p : Source) (known : Known) (x : NameId) (starts : List ℕ) where
     pub goes_on : (i : ℕ) → i < at → (d : ℕ) → Contains (leads_to p known x (get_or met i 0)) d → Contains met d
     pub in_turn : (i : ℕ) → i < length met → IsMetWithin p known x starts i (get_or met i 0)
     pub within : (c : ℕ) → Contains met c → c < length p.sites
+    pub distinct : IsDistinct nat_eq met
     pub few : length met ≤ length p.sites
     pub so_far : at ≤ length met
     pub has : (i : ℕ) → i < at → IsPart (brings p known x (get_or met i 0)) found
@@ -38,6 +39,7 @@ module _ (p : Source) (known : Known) (x : NameId) (starts : List ℕ) where
     goes_on = λ i l. absurd (let k : i < 0 = l in omega (arith, k));
     in_turn = λ i l. record { steps = 0; few = omega arith; met = at_start (g.only i (omega arith) l) };
     within = within;
+    distinct = d;
     few = below-all met (length p.sites) d within;
     so_far = omega arith;
     has = λ i l. absurd (let k : i < 0 = l in omega (arith, k));
@@ -65,6 +67,7 @@ module _ (p : Source) (known : Known) (x : NameId) (starts : List ℕ) where
             (λ m. let t = w.in_turn at l in let few : t.steps ≤ at = t.few in let m' : length met ≤ i = m in record { steps = suc t.steps; few = omega (arith, few, m', l); met = one_up t.met (g.only i m k) })
             (within_or_past i (length met));
         within = within;
+        distinct = d;
         few = below-all new (length p.sites) d within;
         so_far = omega (arith, l, longer);
         has = λ i k. let a : IsPart (brings p known x (get_or met i 0)) (joined found (brings p known x (get_or met at 0))) =
