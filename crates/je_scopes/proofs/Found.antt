@@ -86,7 +86,7 @@ whole-named p known parts is (a_class c) d e = on-named p known (a_class c) is d
 whole-named p known parts is (a_variable c at) d e = on-named p known (a_variable c at) is d e
 whole-named p known parts is unclear d e = on-named p known unclear is d e
 
-meant-named : (p : Source) (known : Known) (c : ℕ) (part : Part) (parts : List Identifier) (d : ℕ) → meaning p known c part parts ≡ a_class d → Contains (named p known c part parts) d
+pub meant-named : (p : Source) (known : Known) (c : ℕ) (part : Part) (parts : List Identifier) (d : ℕ) → meaning p known c part parts ≡ a_class d → Contains (named p known c part parts) d
 meant-named p known c part [] d e = absurd cc
 meant-named p known c part (i ∷ is) d e = whole-named p known (i ∷ is) is (in_scope p known c part i.name) d e
 

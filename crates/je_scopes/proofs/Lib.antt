@@ -1,12 +1,12 @@
 pub mod Either
 mod Growing
 mod Settling
-mod Rounds
+pub mod Rounds
 mod First
 pub mod Ranges
 mod Walking
 pub mod Lists
-mod Dependence
+pub mod Dependence
 mod Acyclic
-mod Found
+pub mod Found
 mod Rows

@@ -14,7 +14,7 @@ pub in-right : {A : Type 0} (xs ys : List A) (y : A) → Contains ys y → Conta
 in-right [] ys y q = q
 in-right (x ∷ xs) ys y q = contains-later x y (xs ++ ys) (in-right xs ys y q)
 
-in-either : {A : Type 0} (xs ys : List A) (y : A) → Contains (xs ++ ys) y → Contains xs y ⊎ Contains ys y
+pub in-either : {A : Type 0} (xs ys : List A) (y : A) → Contains (xs ++ ys) y → Contains xs y ⊎ Contains ys y
 in-either [] ys y q = inr q
 in-either (x ∷ xs) ys y q = by_either (λ e. inl (subst (Contains (x ∷ xs)) e (contains-here x xs))) (λ r. by_either (λ k. inl (contains-later x y xs k)) (λ k. inr k) (in-either xs ys y r)) (contains-cases x y (xs ++ ys) q)
 

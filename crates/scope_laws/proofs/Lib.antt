@@ -1,0 +1,5 @@
+pub mod Parts
+pub mod Walking
+pub mod Gains
+pub mod Steps
+pub mod Supers
