@@ -3,3 +3,5 @@ pub mod Walking
 pub mod Gains
 pub mod Steps
 pub mod Supers
+pub mod Cycles
+pub mod Free

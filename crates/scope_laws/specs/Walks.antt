@@ -1,5 +1,5 @@
 -- A look-up of the member classes that are inherited, as a walk over the classes that it comes by (JLS 8.5).
-use Rattle.std.specs.Prelude.{ℕ, zero, suc, ◌<◌, ◌≤◌, List, [], length, Option, Some, None, slice_index_or}
+use Rattle.std.specs.Prelude.{◌≡◌, Bool, true, ℕ, zero, suc, ◌<◌, ◌≤◌, List, [], length, Option, Some, None, slice_index_or}
 use Rattle.std.specs.List.{Contains}
 use Rattle.je_base.specs.declared.span.NameId.{NameId}
 use Rattle.je_scopes.specs.Looks.{Look, waits, nothing, joined_over}
@@ -46,3 +46,13 @@ pub record IsWalk (p : Source) (known : Known) (x : NameId) (starts met : List �
 -- what classes have to be inherited under a name: the union over them
 abbrev pub inherited_from : Source → Known → NameId → List ℕ → Look
 inherited_from p known x ds = joined_over (λ d. inheritable p (member_class p known x d)) ds
+
+-- a class whose header is known, with all of those above it among some classes
+pub record Above (known : Known) (clear : ℕ → Bool) (c : ℕ) : Type 0 where
+  pub supers : List ℕ
+  pub known_so : known c ≡ Some supers
+  pub above : (d : ℕ) → Contains supers d → clear d ≡ true
+
+-- classes above which all headers are known: those directly above each are among them
+abbrev pub AreKnown : Known → (ℕ → Bool) → Type 0
+AreKnown known clear = (c : ℕ) → clear c ≡ true → Above known clear c
