@@ -1,0 +1,4 @@
+pub mod Behind
+pub mod Growth
+pub mod Standing
+pub mod Sites
