@@ -137,6 +137,23 @@ module _ (p : CoreProgram) where
       (λ _ e. by-fields class c e (least_failing (field_passes p class c) (length c.fields)) (least (field_passes p class c) (length c.fields)))
       (λ _ e. part_first (itself-first class c e)) refl
 
+  without : (class : ClassId) (c : CoreClass) (o : Option Part) → FirstOf class c o → o ≡ None → is_whole_fit p class c ≡ true
+  without class c _ (nothing_first h) e = h
+  without class c _ (part_first k) e = absurd cc
+
+  with-part : (class : ClassId) (c : CoreClass) (part : Part) (o : Option Part) → FirstOf class c o → o ≡ Some part → is_whole_fit p class c ≡ false
+  with-part class c part _ (nothing_first h) e = absurd cc
+  with-part class c part _ (part_first {part = first} k) e = bool_cases (λ b. is_whole_fit p class c ≡ b → b ≡ false) (is_whole_fit p class c)
+      (λ _ h. absurd (k.misfit (part_sound p class c h first k.is_part)))
+      (λ _ h. refl) refl
+
+  -- a class without a first part fits, and one with a first part doesn't
+  pub whole_without : (class : ClassId) (c : CoreClass) → first_part p class c ≡ None → is_whole_fit p class c ≡ true
+  whole_without class c e = without class c (first_part p class c) (of-class class c) e
+
+  pub not_whole_with : (class : ClassId) (c : CoreClass) (part : Part) → first_part p class c ≡ Some part → is_whole_fit p class c ≡ false
+  not_whole_with class c part e = with-part class c part (first_part p class c) (of-class class c) e
+
   -- ---- of the program
 
   pub data FirstMisfit : Option (ClassId × Part) → Type 0 where

@@ -4,8 +4,8 @@ mod Complete
 mod StatementsDecided
 pub mod Quantified
 mod MembersDecided
-mod ClassesDecided
-mod FirstMisfit
+pub mod ClassesDecided
+pub mod FirstMisfit
 mod Acyclic
 mod Rows
 mod ProgramRows
