@@ -1,10 +1,8 @@
 -- Ways from class to class, and those that lead back.
-use Rattle.std.proofs.Common.{◌≡◌, ◌≢◌, ℕ, zero, suc, ◌+◌, ◌<◌, ◌≤◌, List, [], ◌∷◌, length, get_or, set, Option, Some, None, refl, sym, ◌∙◌, ap, subst, arith, inl, inr}
-use Rattle.std.specs.Prelude.{Bool, true, false, ◌⊎◌, ◌↔◌, nat_eq, slice_get, slice_index}
+use Rattle.std.proofs.Common.{◌≡◌, ◌≢◌, ℕ, zero, suc, ◌+◌, ◌<◌, ◌≤◌, List, [], length, get_or, set, refl, sym, ◌∙◌, ap, subst, arith, inl, inr}
+use Rattle.std.specs.Prelude.{true, ◌⊎◌, ◌↔◌, nat_eq, slice_index}
 use Rattle.std.specs.List.{Contains, IsDistinct}
 use Rattle.std.proofs.lemmas.List.{get_or-set_same, get_or-set_other}
-use Rattle.std.proofs.lemmas.Option.{slice_get_past}
-use Rattle.je_classes.proofs.Lists.{bool_cases}
 use Rattle.je_scopes.specs.Source.{Source}
 use Rattle.je_scopes.specs.Settled.{dependences, Depends, direct, onward, depends}
 use Rattle.je_scopes.proofs.Dependence.{depends_is_decided}

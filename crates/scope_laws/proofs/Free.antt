@@ -1,5 +1,5 @@
 -- Where no class has a name, no look-up of it finds one.
-use Rattle.std.proofs.Common.{◌≡◌, ℕ, zero, suc, List, [], ◌∷◌, length, Option, Some, None, refl, sym, ◌∙◌, ap, subst}
+use Rattle.std.proofs.Common.{◌≡◌, ℕ, zero, suc, List, [], ◌∷◌, length, Some, refl, ◌∙◌, ap}
 use Rattle.std.specs.Prelude.{Bool, true}
 use Rattle.std.specs.List.{Contains}
 use Rattle.je_base.specs.declared.span.NameId.{NameId}
@@ -7,7 +7,7 @@ use Rattle.je_classes.proofs.Lists.{contains-here, contains-later}
 use Rattle.je_scopes.specs.Looks.{Look, nothing, joined, joined_over, or_further}
 use Rattle.je_scopes.specs.Source.{Source}
 use Rattle.je_scopes.specs.Scope.{Known, declared, inheritable, from_supers, member_within}
-use Rattle.scope_laws.specs.Walks.{AreKnown, Above}
+use Rattle.scope_laws.specs.Walks.{AreKnown}
 use Rattle.scope_laws.specs.Laws.{NothingIsFound}
 
 all-nothing : (f : ℕ → Look) (cs : List ℕ) → ((c : ℕ) → Contains cs c → f c ≡ nothing) → joined_over f cs ≡ nothing

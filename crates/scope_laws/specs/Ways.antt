@@ -1,5 +1,5 @@
 -- Ways from class to class, by the classes to which each leads.
-use Rattle.std.specs.Prelude.{◌≡◌, ℕ, ◌<◌, List, slice_index}
+use Rattle.std.specs.Prelude.{ℕ, ◌<◌, List, slice_index}
 use Rattle.std.specs.List.{Contains}
 
 -- one class leads to another, in one step or more
