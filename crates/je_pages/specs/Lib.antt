@@ -1,0 +1,2 @@
+pub mod way
+pub mod Paging
