@@ -1,0 +1,14 @@
+//! Tests of what is looked up in a core program's classes, of their names, of the parts of nodes that fit, and of pages, each over what these
+//! crates export, with ample memory.
+#![tactic(auto)]
+
+#[cfg(test)]
+mod dispatching;
+#[cfg(test)]
+mod fitting_parts;
+#[cfg(test)]
+mod long_rows;
+#[cfg(test)]
+mod naming;
+#[cfg(test)]
+mod small_program;

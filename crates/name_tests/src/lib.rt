@@ -1,0 +1,5 @@
+//! Tests of the names of a source, each over what these crates export, with ample memory.
+#![tactic(auto)]
+
+#[cfg(test)]
+mod walking;
