@@ -3,7 +3,7 @@ use Rattle.std.proofs.Common.{subst}
 use Rattle.je_core.specs.Core.{CoreProgram}
 use Rattle.je_heap.specs.Contents.{Contents}
 use Rattle.je_interp.specs.declared.machine.Machine.{Machine}
-use Rattle.je_interp.specs.declared.machine.Next.{Next}
+use Rattle.machine_parts.specs.declared.frame.Next.{Next}
 use Rattle.je_interp.specs.Finish.{GoesOnAs, Ends, IsEnd, state_now}
 
 pub ends-before : (p : CoreProgram) (first between last : Machine) (a b c : Contents) (next : Next) →

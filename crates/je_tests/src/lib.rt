@@ -11,6 +11,8 @@ mod heap;
 #[cfg(test)]
 mod lexing;
 #[cfg(test)]
+mod machine_calls;
+#[cfg(test)]
 mod one_files;
 #[cfg(test)]
 mod one_grammar;

@@ -2,8 +2,8 @@
 use Rattle.std.proofs.Common.{◌≡◌, ◌≢◌, Option, Some, None, refl, sym, ap, ◌∙◌, subst}
 use Rattle.je_core.specs.declared.value.Value.{Value}
 use Rattle.je_core.specs.declared.value.Value.TheVariants.{Int}
-use Rattle.je_interp.specs.declared.machine.Next.{Next}
-use Rattle.je_interp.specs.declared.machine.Next.TheVariants.{More, Done as DoneNext, Thrown as ThrownNext, Spent as SpentNext}
+use Rattle.machine_parts.specs.declared.frame.Next.{Next}
+use Rattle.machine_parts.specs.declared.frame.Next.TheVariants.{More, Done as DoneNext, Thrown as ThrownNext, Spent as SpentNext}
 use Rattle.je_interp.specs.Finish.{IsEnd}
 use Rattle.je_java.specs.Steps.{State, Answer as Outcome, Done, Thrown, Spent}
 use Rattle.one_sound.specs.Replies.{Replies}

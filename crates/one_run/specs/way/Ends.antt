@@ -1,8 +1,8 @@
 -- What an end of the machine is to the caller of a method that returns an int.
 use Rattle.std.specs.Prelude.{Option, Some, None}
 use Rattle.je_core.specs.declared.value.Value.TheVariants.{Int}
-use Rattle.je_interp.specs.declared.machine.Next.{Next}
-use Rattle.je_interp.specs.declared.machine.Next.TheVariants.{Done, Spent}
+use Rattle.machine_parts.specs.declared.frame.Next.{Next}
+use Rattle.machine_parts.specs.declared.frame.Next.TheVariants.{Done, Spent}
 use Rattle.one_run.specs.declared.answer.Answer.{Answer}
 use Rattle.one_run.specs.declared.answer.Answer.TheVariants.{Reply, Spent as SpentAnswer}
 

@@ -1,7 +1,0 @@
-use Rattle.std.proofs.Common.{◌≡◌, drop, map}
-use Rattle.je_core.specs.View.{group_view}
-use Rattle.je_java.specs.Meaning.{is_default, groups_from}
-use Rattle.je_interp.proofs.switch.defaults.Given as goal
-
-abbrev pub invariant-loop-at : goal.invariant-loop-at
-invariant-loop-at l = groups_from is_default (map group_view (drop l.at l.groups)) ≡ groups_from is_default (map group_view l.groups)

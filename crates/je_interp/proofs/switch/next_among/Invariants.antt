@@ -1,7 +1,0 @@
-use Rattle.std.proofs.Common.{◌≡◌, map}
-use Rattle.je_core.specs.View.{group_view}
-use Rattle.je_interp.specs.Ways.{rest_of}
-use Rattle.je_interp.proofs.switch.next_among.Given as goal
-
-abbrev pub invariant-loop-at : goal.invariant-loop-at
-invariant-loop-at l = rest_of (map group_view l.groups) l.at l.next ≡ rest_of (map group_view l.groups) l.fn.group l.fn.next

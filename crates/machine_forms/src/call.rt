@@ -1,0 +1,334 @@
+// Calls: a receiver, arguments, and then a method's body.
+
+ghost use Rattle.std.specs.Prelude.{◌≡◌, ◌≤◌, ◌<◌, ◌+◌, ◌^◌, [], IfOk, length, drop, MatchOption, IsSome};
+ghost use Rattle.machine_parts.specs.way.Clauses.{BeginsValue, GoesToValue, GoesToValueOf, GoesAhead, NextExpr};
+ghost use Rattle.je_core.specs.View.{view, form_view, views, stmt_view_if, method_view};
+ghost use Rattle.je_java.specs.Steps.{bind};
+ghost use Rattle.je_java.specs.Meaning.{run_method, run_target, run_virtual, run_instance, run_exact, run_new, apply as the_apply, args_of, receiver_of, with_values, adding, call_from as the_call_from, start_call as the_start_call, begin_call as the_begin_call};
+ghost use Rattle.machine_parts.specs.Ways.{built_or, height, gives};
+
+use je_core::{ClassId, Expr, Form, Memory, Method, Program, Slots, Stmt, Value};
+use je_heap::Heap;
+use je_java::Target;
+use machine_parts::class::{class_of, dispatched, locals_for, method};
+use machine_parts::frame::{Context, Control, Env, Frame, Made};
+use machine_parts::make::{instance, raise_null_pointer};
+use machine_parts::stack::Stack;
+use std::mem;
+use std::rc::Rc;
+
+/// A method's body.
+pub fn body(method: &Method) -> Result<Option<Rc<Stmt>>, Memory>
+    ensures { IfOk result (λ body. stmt_view_if body ≡ (method_view method.now).body) }
+{
+    match &method.body {
+        Some(body) => Ok(Some(body.clone()?)),
+        None => Ok(None),
+    }
+}
+
+// Enters a method's body.
+fn enter(
+    context: &mut Context,
+    method: &Method,
+    this: Value,
+    values: Slots,
+    built: Option<Value>,
+) -> Result<Control, Memory>
+    ensures goes { IfOk result (GoesAhead context.old context.new (λ p m k.
+        run_method m (method_view method.now) this values (built_or built k.give) k.out)) }
+    ensures short { IfOk result (λ c. height context.new + gives c ≤ height context.old + 1) }
+    ensures begun { context.new.begun ≡ context.old.begun }
+{
+    let Some(body) = body(method)? else {
+        return Ok(Control::Wrong);
+    };
+    let locals = locals_for(method, values)?;
+    let caller = mem::replace(&mut context.env, Env { this, locals });
+    context.frames.push(Frame::Called {
+        caller,
+        result: method.returns.default_value(),
+        built,
+    })?;
+    Ok(Control::Exec(body))
+}
+
+// Enters the body of the method that a call comes to.
+fn enter_target(
+    context: &mut Context,
+    program: &Program,
+    target: Target,
+    this: Value,
+    values: Slots,
+) -> Result<Control, Memory>
+    ensures goes { IfOk result (GoesToValueOf program.now context.old context.new
+        (λ p m. run_target p m target this values)) }
+    ensures short { IfOk result (λ c. height context.new + gives c ≤ height context.old + 1) }
+    ensures begun { context.new.begun ≡ context.old.begun }
+{
+    match method(program, target.class, target.method) {
+        Some(method) => enter(context, method, this, values, None),
+        None => Ok(Control::Wrong),
+    }
+}
+
+fn call_virtual(
+    context: &mut Context,
+    heap: &mut Heap,
+    program: &Program,
+    class: ClassId,
+    at: u32,
+    this: Value,
+    values: Slots,
+) -> Result<Control, Memory>
+    ensures goes { IfOk result (GoesToValue program.now context.old heap.old context.new heap.new
+        (λ p m. run_virtual p m class at this values)) }
+    ensures short { IfOk result (λ c. height context.new + gives c ≤ height context.old + 1) }
+    ensures begun { context.new.begun ≡ context.old.begun }
+{
+    match this {
+        Value::Ref(object) => {
+            let Some(own) = class_of(heap, object) else {
+                return Ok(Control::Wrong);
+            };
+            match dispatched(own, class, at) {
+                Some(target) => enter_target(context, program, target, this, values),
+                None => Ok(Control::Wrong),
+            }
+        }
+        Value::Null => raise_null_pointer(context, heap, program),
+        _ => Ok(Control::Wrong),
+    }
+}
+
+fn call_instance(
+    context: &mut Context,
+    heap: &mut Heap,
+    program: &Program,
+    method: &Method,
+    this: Value,
+    values: Slots,
+) -> Result<Control, Memory>
+    ensures goes { IfOk result (GoesToValue program.now context.old heap.old context.new heap.new
+        (λ p m. run_instance p m (method_view method.now) this values)) }
+    ensures short { IfOk result (λ c. height context.new + gives c ≤ height context.old + 1) }
+    ensures begun { context.new.begun ≡ context.old.begun }
+{
+    match this {
+        Value::Ref(_) => enter(context, method, this, values, None),
+        Value::Null => raise_null_pointer(context, heap, program),
+        _ => Ok(Control::Wrong),
+    }
+}
+
+fn call_exact(
+    context: &mut Context,
+    heap: &mut Heap,
+    program: &Program,
+    class: ClassId,
+    at: u32,
+    this: Value,
+    values: Slots,
+) -> Result<Control, Memory>
+    ensures goes { IfOk result (GoesToValue program.now context.old heap.old context.new heap.new
+        (λ p m. run_exact p m class at this values)) }
+    ensures short { IfOk result (λ c. height context.new + gives c ≤ height context.old + 1) }
+    ensures begun { context.new.begun ≡ context.old.begun }
+{
+    let Some(method) = method(program, class, at) else {
+        return Ok(Control::Wrong);
+    };
+    if method.flags.is_static {
+        enter(context, method, Value::Null, values, None)
+    } else {
+        call_instance(context, heap, program, method, this, values)
+    }
+}
+
+fn call_new(
+    context: &mut Context,
+    heap: &mut Heap,
+    program: &Program,
+    class: ClassId,
+    at: u32,
+    values: Slots,
+) -> Result<Control, Memory>
+    ensures goes { IfOk result (GoesToValue program.now context.old heap.old context.new heap.new
+        (λ p m. run_new p m class at values)) }
+    ensures short { IfOk result (λ c. height context.new + gives c ≤ height context.old + 1) }
+    ensures begun { context.new.begun ≡ context.old.begun }
+{
+    let object = match instance(context, heap, program, class)? {
+        Made::Object(object) => Value::Ref(object),
+        Made::Spent => return Ok(Control::Spent),
+        Made::Wrong => return Ok(Control::Wrong),
+    };
+    match method(program, class, at) {
+        Some(constructor) => enter(context, constructor, object, values, Some(object)),
+        None => Ok(Control::Wrong),
+    }
+}
+
+fn apply(
+    context: &mut Context,
+    heap: &mut Heap,
+    program: &Program,
+    call: &Form,
+    this: Value,
+    values: Slots,
+) -> Result<Control, Memory>
+    ensures goes { IfOk result (GoesToValue program.now context.old heap.old context.new heap.new
+        (λ p m. the_apply p m (form_view call.now) this values)) }
+    ensures short { IfOk result (λ c. height context.new + gives c ≤ height context.old + 1) }
+    ensures begun { context.new.begun ≡ context.old.begun }
+{
+    match call {
+        Form::CallVirtual { class, method, .. } => {
+            call_virtual(context, heap, program, *class, *method, this, values)
+        }
+        Form::CallExact { class, method, .. } => {
+            call_exact(context, heap, program, *class, *method, this, values)
+        }
+        Form::New { class, method, .. } => call_new(
+            context, heap, program, *class, *method, values,
+        ),
+        _ => Ok(Control::Wrong),
+    }
+}
+
+// The arguments of a call.
+#[tactic(auto, using(machine_parts::proofs::Seen::lists_seen))]
+fn args(form: &Form) -> Option<&Vec<Rc<Expr>>>
+    ensures { MatchOption result (args_of (form_view form.now) ≡ [])
+        (λ v. args_of (form_view form.now) ≡ views v.now.items) }
+{
+    match form {
+        Form::CallVirtual { args, .. } => Some(args),
+        Form::CallExact { args, .. } => Some(args),
+        Form::New { args, .. } => Some(args),
+        _ => None,
+    }
+}
+
+fn arg_at(form: &Form, at: usize) -> Result<Option<Rc<Expr>>, Memory>
+    ensures goes { IfOk result (NextExpr (args_of (form_view form.now)) at) }
+    ensures room { IfOk result (λ found. IsSome found → at + 1 < 2 ^ 64) }
+{
+    let Some(args) = args(form) else {
+        return Ok(None);
+    };
+    match args.get(at) {
+        Some(arg) => Ok(Some(arg.clone()?)),
+        None => Ok(None),
+    }
+}
+
+#[tactic(auto, unfolding(machine_parts::specs::way::Opened::binding))]
+fn begin_arg(
+    call: Rc<Expr>,
+    this: Value,
+    next: usize,
+    done: Slots,
+    arg: Rc<Expr>,
+    frames: &mut Stack,
+) -> Result<Control, Memory>
+    ensures goes { IfOk result (BeginsValue frames.old frames.new
+        (λ p m. bind (m.eval (view arg.value)) (adding
+        (with_values m (drop next (args_of (form_view call.value.form)))
+        (the_apply p m (form_view call.value.form) this)) done))) }
+    ensures short { IfOk result (λ c. length frames.new + gives c ≤ length frames.old + 1) }
+{
+    frames.push(Frame::Args {
+        call,
+        this,
+        next,
+        done,
+    })?;
+    Ok(Control::Eval(arg))
+}
+
+fn begin_receiver(call: Rc<Expr>, receiver: Rc<Expr>, frames: &mut Stack) -> Result<Control, Memory>
+    ensures goes { IfOk result (BeginsValue frames.old frames.new
+        (λ p m. bind (m.eval (view receiver.value))
+        (the_start_call p m (form_view call.value.form)))) }
+    ensures short { IfOk result (λ c. length frames.new + gives c ≤ length frames.old + 1) }
+{
+    frames.push(Frame::Receiver { call })?;
+    Ok(Control::Eval(receiver))
+}
+
+/// The arguments of a call from a place on, and then the call.
+#[tactic(auto)]
+pub fn call_from(
+    context: &mut Context,
+    heap: &mut Heap,
+    program: &Program,
+    call: Rc<Expr>,
+    this: Value,
+    next: usize,
+    done: Slots,
+) -> Result<Control, Memory>
+    ensures goes { IfOk result (GoesToValue program.now context.old heap.old context.new heap.new
+        (λ p m. the_call_from p m (form_view call.value.form) this next done)) }
+    ensures short { IfOk result (λ c. height context.new + gives c ≤ height context.old + 1) }
+    ensures begun { context.new.begun ≡ context.old.begun }
+{
+    match arg_at(&call.form, next)? {
+        Some(arg) => begin_arg(call, this, next + 1, done, arg, &mut context.frames),
+        None => apply(context, heap, program, &call.form, this, done),
+    }
+}
+
+// The receiver that a call evaluates.
+fn receiver(form: &Form) -> Option<&Rc<Expr>>
+    ensures { MatchOption result (receiver_of (form_view form.now) ≡ None)
+        (λ r. receiver_of (form_view form.now) ≡ Some (view r.now.value)) }
+{
+    match form {
+        Form::CallVirtual { receiver, .. } => Some(receiver),
+        Form::CallExact { receiver, .. } => match receiver {
+            Some(receiver) => Some(receiver),
+            None => None,
+        },
+        _ => None,
+    }
+}
+
+/// A call whose receiver has a value.
+pub fn start_call(
+    context: &mut Context,
+    heap: &mut Heap,
+    program: &Program,
+    call: Rc<Expr>,
+    this: Value,
+) -> Result<Control, Memory>
+    ensures goes { IfOk result (GoesToValue program.now context.old heap.old context.new heap.new
+        (λ p m. the_start_call p m (form_view call.value.form) this)) }
+    ensures short { IfOk result (λ c. height context.new + gives c ≤ height context.old + 1) }
+    ensures begun { context.new.begun ≡ context.old.begun }
+{
+    let none = Slots::new(context.alloc);
+    call_from(context, heap, program, call, this, 0, none)
+}
+
+/// A call from its beginning.
+#[tactic(auto)]
+pub fn begin_call(
+    context: &mut Context,
+    heap: &mut Heap,
+    program: &Program,
+    call: Rc<Expr>,
+) -> Result<Control, Memory>
+    ensures goes { IfOk result (GoesToValue program.now context.old heap.old context.new heap.new
+        (λ p m. the_begin_call p m (form_view call.value.form))) }
+    ensures short { IfOk result (λ c. height context.new + gives c ≤ height context.old + 1) }
+    ensures begun { context.new.begun ≡ context.old.begun }
+{
+    match receiver(&call.form) {
+        Some(receiver) => {
+            let receiver = receiver.clone()?;
+            begin_receiver(call, receiver, &mut context.frames)
+        }
+        None => start_call(context, heap, program, call, Value::Null),
+    }
+}

@@ -1,0 +1,8 @@
+//! How the machine begins an expression, and how calls and compound assignments go on: one function a form.
+//!
+//! Inside the machine alone: the layers above it use `je_interp`.
+#![tactic(auto, unfolding(machine_parts::specs::way::Opened::opened))]
+
+pub mod call;
+pub mod expr;
+pub mod update;

@@ -1,0 +1,197 @@
+// A call from outside begins with its body: no move of its own comes before.
+
+ghost use Rattle.std.specs.Prelude.{◌≤◌, ◌<◌, ◌+◌, IfOk, Some};
+ghost use Rattle.je_core.specs.View.{method_view};
+ghost use Rattle.je_java.specs.Meaning.{replied as the_replied, replied_virtual, replied_fresh, built, call_by};
+ghost use Rattle.machine_parts.specs.way.Clauses.{GoesToReply, BeginsBody, Falls};
+
+use crate::node::exec;
+use je_core::{ClassId, Memory, Method, ObjId, Program, Slots, Stmt, Value};
+use je_heap::Heap;
+use je_java::{Receiver, Target};
+use machine_forms::call::body;
+use machine_parts::class::{class_of, dispatched, locals_for, method};
+use machine_parts::frame::{Call, Context, Control, Env, Made, Reply};
+use machine_parts::make::instance;
+use machine_parts::reply::nobody;
+use machine_parts::stack::Stack;
+use std::rc::Rc;
+
+// The first body begins, with nothing behind it.
+fn begin_body(
+    context: &mut Context,
+    heap: &Heap,
+    program: &Program,
+    body: Rc<Stmt>,
+    this: Value,
+    locals: Slots,
+) -> Result<Control, Memory>
+    ensures goes { IfOk result (BeginsBody program.now context.old heap.now context.new body.value
+        (record { this = this; locals = locals })) }
+    ensures falls { IfOk result (Falls context.old context.new) }
+    ensures begun { context.new.begun ≤ context.old.begun + 1 }
+{
+    context.frames = Stack::new(context.alloc);
+    context.env = Env { this, locals };
+    exec(context, program, heap, body)
+}
+
+// A method's body on a receiver.
+fn start_method(
+    context: &mut Context,
+    heap: &Heap,
+    program: &Program,
+    reply: &mut Reply,
+    target: Target,
+    this: Value,
+    args: Slots,
+) -> Result<Control, Memory>
+    ensures goes { IfOk result (GoesToReply program.now
+        context.old heap.now reply.new context.new heap.now
+        (λ p m. the_replied p m target this args)) }
+    ensures falls { IfOk result (Falls context.old context.new) }
+    ensures begun { context.new.begun ≤ context.old.begun + 1 }
+{
+    let Some(method) = method(program, target.class, target.method) else {
+        return Ok(Control::Wrong);
+    };
+    let Some(body) = body(method)? else {
+        return Ok(Control::Wrong);
+    };
+    *reply = Reply::Result(method.returns);
+    let locals = locals_for(method, args)?;
+    begin_body(context, heap, program, body, this, locals)
+}
+
+// The body of the method that an object's class has for the named one.
+fn start_virtual(
+    context: &mut Context,
+    heap: &Heap,
+    program: &Program,
+    reply: &mut Reply,
+    class: ClassId,
+    at: u32,
+    object: ObjId,
+    args: Slots,
+) -> Result<Control, Memory>
+    ensures goes { IfOk result (GoesToReply program.now
+        context.old heap.now reply.new context.new heap.now
+        (λ p m. replied_virtual p m class at object args)) }
+    ensures falls { IfOk result (Falls context.old context.new) }
+    ensures begun { context.new.begun ≤ context.old.begun + 1 }
+{
+    let Some(own) = class_of(heap, object) else {
+        return Ok(Control::Wrong);
+    };
+    match dispatched(own, class, at) {
+        Some(target) => start_method(
+            context,
+            heap,
+            program,
+            reply,
+            target,
+            Value::Ref(object),
+            args,
+        ),
+        None => Ok(Control::Wrong),
+    }
+}
+
+// A constructor's body on an object that was made for it.
+fn start_constructor(
+    context: &mut Context,
+    heap: &Heap,
+    program: &Program,
+    reply: &mut Reply,
+    constructor: &Method,
+    object: ObjId,
+    args: Slots,
+) -> Result<Control, Memory>
+    ensures goes { IfOk result (GoesToReply program.now
+        context.old heap.now reply.new context.new heap.now
+        (λ p m. built p m (method_view constructor.now) object args)) }
+    ensures falls { IfOk result (Falls context.old context.new) }
+    ensures begun { context.new.begun ≤ context.old.begun + 1 }
+{
+    let Some(body) = body(constructor)? else {
+        return Ok(Control::Wrong);
+    };
+    *reply = Reply::Built(object);
+    let locals = locals_for(constructor, args)?;
+    begin_body(context, heap, program, body, Value::Ref(object), locals)
+}
+
+// A new object, and the body of its constructor.
+fn start_fresh(
+    context: &mut Context,
+    heap: &mut Heap,
+    program: &Program,
+    reply: &mut Reply,
+    class: ClassId,
+    at: u32,
+    args: Slots,
+) -> Result<Control, Memory>
+    ensures goes { IfOk result (GoesToReply program.now
+        context.old heap.old reply.new context.new heap.new
+        (λ p m. replied_fresh p m class at args)) }
+    ensures falls { IfOk result (Falls context.old context.new) }
+    ensures begun { context.new.begun ≤ context.old.begun + 1 }
+{
+    let object = match instance(context, heap, program, class)? {
+        Made::Object(object) => object,
+        Made::Spent => {
+            context.env = nobody(context.alloc);
+            return Ok(Control::Spent);
+        }
+        Made::Wrong => return Ok(Control::Wrong),
+    };
+    match method(program, class, at) {
+        Some(constructor) => start_constructor(
+            context,
+            heap,
+            program,
+            reply,
+            constructor,
+            object,
+            args,
+        ),
+        None => Ok(Control::Wrong),
+    }
+}
+
+/// Begins the call: finds or makes its receiver and its method, and begins the body.
+pub fn start(
+    context: &mut Context,
+    heap: &mut Heap,
+    program: &Program,
+    reply: &mut Reply,
+    call: Call,
+) -> Result<Control, Memory>
+    ensures goes { IfOk result (GoesToReply program.now
+        context.old heap.old reply.new context.new heap.new
+        (λ p m. call_by p m call.receiver call.class call.method call.args)) }
+    ensures falls { IfOk result (Falls context.old context.new) }
+    ensures begun { context.new.begun ≤ context.old.begun + 1 }
+{
+    let Call {
+        class,
+        method,
+        receiver,
+        args,
+    } = call;
+    match receiver {
+        Receiver::None => start_method(
+            context,
+            heap,
+            program,
+            reply,
+            Target { class, method },
+            Value::Null,
+            args,
+        ),
+        Receiver::Object(object) => start_virtual(
+            context, heap, program, reply, class, method, object, args,
+        ),
+        Receiver::Fresh => start_fresh(context, heap, program, reply, class, method, args),
+    }
+}

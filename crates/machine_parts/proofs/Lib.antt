@@ -1,0 +1,5 @@
+pub mod Lists
+pub mod Seen
+pub mod Fields
+pub mod Subclasses
+pub mod Results

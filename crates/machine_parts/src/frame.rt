@@ -1,0 +1,270 @@
+// What waits for a part of a node, and what comes next.
+
+ghost use Rattle.std.specs.Prelude.{◌≤◌, ◌+◌};
+
+use crate::stack::Stack;
+use je_base::NameId;
+use je_core::{BinOp, ClassId, Expr, ObjId, Slots, Stmt, Ty, UnOp, Value};
+use je_java::Receiver;
+use std::alloc::Global;
+use std::rc::Rc;
+
+/// What a machine does next.
+#[derive(Drop)]
+pub enum Control {
+    /// Begin a call from outside.
+    Start(Call),
+    /// Begin an expression.
+    Eval(Rc<Expr>),
+    /// Begin a statement.
+    Exec(Rc<Stmt>),
+    /// Hand a value to the newest frame.
+    Give(Value),
+    /// Go on after a statement.
+    Next,
+    /// Leave the method with a value.
+    Leave(Value),
+    /// Unwind with an exception.
+    Throw(ObjId),
+    /// Leave statements by a `continue` or a `break`.
+    Jump { again: bool, label: Option<NameId> },
+    /// The call is done, with a reply or none.
+    Done(Option<Value>),
+    /// The call has thrown.
+    Thrown(ObjId),
+    /// The next cost is greater than the units left.
+    Spent,
+    /// What a program that fits its types never comes to.
+    Wrong,
+    /// An allocation was refused.
+    Memory,
+}
+
+/// What a step comes to.
+#[derive(Clone, Copy, PartialEq, Eq, Debug)]
+pub enum Next {
+    /// The call goes on.
+    More,
+    /// It is done, with the method's result, or none where that is `void`. A start replies the new object.
+    Done(Option<Value>),
+    /// It has thrown the exception of that number.
+    Thrown(ObjId),
+    /// The next cost is greater than the units left.
+    Spent,
+}
+
+/// How a statement ended, before a block that runs however it ends.
+#[derive(Clone, Copy)]
+pub enum End {
+    /// It came to its end.
+    Next,
+    /// It left the method with a value.
+    Leave(Value),
+    /// It threw.
+    Throw(ObjId),
+    /// It ended by a `continue` or a `break`.
+    Jump { again: bool, label: Option<NameId> },
+}
+
+/// A call of a method from outside.
+#[derive(Drop)]
+pub struct Call {
+    /// The class that declares the method.
+    pub class: ClassId,
+    /// The method's place among those that the class declares; a constructor's where the receiver is `Fresh`.
+    pub method: u32,
+    /// What it is called on.
+    pub receiver: Receiver,
+    /// The arguments, as many as the method has parameters.
+    pub args: Slots,
+}
+
+/// What the first body's value is for the caller.
+#[derive(Clone, Copy)]
+pub enum Reply {
+    /// The value, or none where the method's result is of that type and it is `void`.
+    Result(Ty),
+    /// The object that was made, whatever its constructor's body comes to.
+    Built(ObjId),
+}
+
+/// A body's own receiver and locals.
+#[derive(Drop)]
+pub struct Env {
+    pub this: Value,
+    pub locals: Slots,
+}
+
+/// What waits for a part of a node.
+#[derive(Drop)]
+pub enum Frame {
+    /// A field's object is being evaluated.
+    ReadField {
+        class: ClassId,
+        field: u32,
+    },
+    /// The value of an assignment to a local is being evaluated.
+    SetLocal {
+        local: u32,
+    },
+    /// The object of an assignment to a field is being evaluated.
+    SetObject {
+        class: ClassId,
+        field: u32,
+        value: Rc<Expr>,
+    },
+    /// The value of an assignment to a field is being evaluated.
+    SetField {
+        class: ClassId,
+        field: u32,
+        object: Value,
+    },
+    /// The object of a place that a compound assignment changes is being evaluated.
+    UpdateObject {
+        node: Rc<Expr>,
+    },
+    /// The operand of a compound assignment is being evaluated.
+    Update {
+        node: Rc<Expr>,
+        object: Value,
+        old: Value,
+    },
+    /// The one operand is being evaluated.
+    Operand {
+        op: UnOp,
+    },
+    /// The number that is to be of that type is being evaluated.
+    Converted {
+        ty: Ty,
+    },
+    /// The reference that is to be of that type is being evaluated.
+    Cast {
+        ty: Ty,
+    },
+    /// The reference that is asked about is being evaluated.
+    InstanceOf {
+        of: Ty,
+    },
+    /// The left operand of `&&` is being evaluated.
+    And {
+        right: Rc<Expr>,
+    },
+    /// The left operand of `||` is being evaluated.
+    Or {
+        right: Rc<Expr>,
+    },
+    /// The condition of `condition ? yes : no` is being evaluated.
+    Choose {
+        yes: Rc<Expr>,
+        no: Rc<Expr>,
+    },
+    /// The condition of a statement is being evaluated.
+    Test {
+        node: Rc<Stmt>,
+    },
+    /// The body of a loop runs. The node is the loop, or, after a `continue` to a label, the statement of that label.
+    Body {
+        node: Rc<Stmt>,
+    },
+    /// The step before `next` of a loop is being evaluated.
+    Steps {
+        node: Rc<Stmt>,
+        next: usize,
+    },
+    /// The statement behind a label runs.
+    Labelled {
+        label: NameId,
+        node: Rc<Stmt>,
+    },
+    /// The selector of a `switch` is being evaluated.
+    Switch {
+        node: Rc<Stmt>,
+    },
+    /// The statement before `next` of a group of a `switch` runs.
+    Cases {
+        node: Rc<Stmt>,
+        group: usize,
+        next: usize,
+    },
+    /// The body of a `try` runs.
+    Try {
+        node: Rc<Stmt>,
+    },
+    /// A catch of a `try` runs, which has a `finally`.
+    Finally {
+        node: Rc<Stmt>,
+    },
+    /// The block behind `finally` runs: how it goes on after its end.
+    Finishing {
+        end: End,
+    },
+    /// The value is thrown.
+    Thrown,
+    /// The left operand is being evaluated.
+    Left {
+        op: BinOp,
+        right: Rc<Expr>,
+    },
+    /// The right operand is being evaluated.
+    Right {
+        op: BinOp,
+        left: Value,
+    },
+    /// A call's receiver is being evaluated.
+    Receiver {
+        call: Rc<Expr>,
+    },
+    /// The argument before `next` is being evaluated.
+    Args {
+        call: Rc<Expr>,
+        this: Value,
+        next: usize,
+        done: Slots,
+    },
+    /// A body runs: what its caller had, the value where the body ends without a return, and the object that a
+    /// constructor builds.
+    Called {
+        caller: Env,
+        result: Value,
+        built: Option<Value>,
+    },
+    /// The statement before `next` of a block runs.
+    Parts {
+        block: Rc<Stmt>,
+        next: usize,
+    },
+    /// The value is dropped.
+    Ignored,
+    /// The value is returned.
+    Returned,
+}
+
+/// What the reading of a place comes to.
+#[derive(Drop)]
+pub enum Fetched {
+    Value(Value),
+    /// The object of the place is null.
+    Null,
+    Wrong,
+}
+
+/// What the making of an instance comes to.
+#[derive(Drop)]
+pub enum Made {
+    Object(ObjId),
+    Spent,
+    Wrong,
+}
+
+/// What a machine's moves read and change beside the heap.
+#[derive(Drop)]
+pub struct Context {
+    pub alloc: Global,
+    pub frames: Stack,
+    pub env: Env,
+    /// The units left.
+    pub units: u64,
+    /// How many nodes have begun.
+    pub begun: u64,
+    ghost counted: { units + begun ≤ 100000000 },
+}
