@@ -1,0 +1,4 @@
+pub mod HeadCalls
+pub mod Each
+pub mod FirstLocals
+pub mod Standing
