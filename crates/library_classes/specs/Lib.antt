@@ -1,2 +1,3 @@
 pub mod Library
 pub mod Numbers
+pub mod Laws

@@ -25,6 +25,7 @@ use Rattle.je_table.specs.declared.types.RowBase.TheVariants as row_base
 use Rattle.je_table.specs.declared.types.RowType.{RowType}
 use Rattle.je_table.specs.Library.{Class, class_row, classes, library}
 use Rattle.je_table.specs.Rows.{Row, row_of}
+use Rattle.class_names.specs.Words.{library_words}
 
 -- a library class's number
 abbrev pub number_of_class : LibraryClass → ClassId
@@ -186,13 +187,13 @@ classes_due number at (c ∷ cs) = class_due number at c ∷ classes_due number 
 
 -- ---- programs
 
--- the names of the library's classes and members
-abbrev pub texts : List (List ℕ)
-texts = map (λ (c : Class). c.name) classes ++ map (λ (r : Row). r.name) rows ++ codes "message" ∷ codes "code" ∷ []
+-- under the numbers of their words
+unfoldable pub all_due : (List ℕ → NameId) → List CoreClass
+all_due number = classes_due number 0 classes
 
--- The first classes of a program are the library's, in order, and their names have one number exactly where they are one text.
+-- The first classes of a program are the library's, in order, and no two of the library's words have one number.
 pub record LibraryStands (program : CoreProgram) : Type 0 where
   pub number : List ℕ → NameId
-  pub one_text : (x y : List ℕ) → Contains texts x → Contains texts y → number x ≡ number y → x ≡ y
+  pub one_text : (x y : List ℕ) → Contains library_words x → Contains library_words y → number x ≡ number y → x ≡ y
   pub others : List CoreClass
-  pub first : program.classes ≡ classes_due number 0 classes ++ others
+  pub first : program.classes ≡ all_due number ++ others

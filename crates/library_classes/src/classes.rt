@@ -4,7 +4,7 @@ ghost use Rattle.std.specs.Prelude.{◌≡◌, ◌<◌, ◌^◌, ◌++◌, ◌�
 ghost use Rattle.je_core.specs.View.{class_view};
 ghost use Rattle.je_table.specs.Library.{classes};
 ghost use Rattle.je_table.specs.Rows.{class_said};
-ghost use Rattle.library_classes.specs.Library.{all_but_first, bridges_due, class_above, class_due, classes_due, first_of, interfaces_due, sort_due, superclass_due};
+ghost use Rattle.library_classes.specs.Library.{all_but_first, all_due, bridges_due, class_above, class_due, first_of, interfaces_due, sort_due, superclass_due};
 ghost use Rattle.library_classes.specs.Numbers.{number_in};
 
 use crate::fields::fields;
@@ -17,9 +17,9 @@ use std::alloc::Global;
 
 /// The classes of the library in their order, under the numbers that their names have. No name is new: they are those to
 /// which the library's words gave numbers.
-#[tactic(auto, using(crate::proofs::Turns::few_rows))]
+#[tactic(auto, using(crate::proofs::Turns::few_rows), unfolding(crate::specs::Library::all_due))]
 pub fn library_classes(alloc: Global, names: &Names) -> Result<Vec<Class>, Memory>
-    ensures { IfOk result (λ made. map class_view made.items ≡ classes_due (number_in names.now) 0 classes) }
+    ensures { IfOk result (λ made. map class_view made.items ≡ all_due (number_in names.now)) }
 {
     let mut made = Vec::new(alloc);
     for (at, row) in class_rows().iter().enumerate() {
