@@ -1,0 +1,8 @@
+use Rattle.std.proofs.Common.{◌≡◌, drop}
+use Rattle.je_core.specs.View.{program_view}
+use Rattle.fit_members.specs.way.Each.{each_of}
+use Rattle.fit_classes.specs.way.Inheriting.{has_method}
+use Rattle.fit_classes.proofs.inherited.has_methods_of_all.Given as goal
+
+abbrev pub invariant-loop-class : goal.invariant-loop-class
+invariant-loop-class l = each_of (program_view l.program) (has_method (program_view l.program) l.id) (drop l.class-index l.above) ≡ each_of (program_view l.program) (has_method (program_view l.program) l.id) l.above
