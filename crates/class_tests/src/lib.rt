@@ -7,6 +7,8 @@ mod dispatching;
 #[cfg(test)]
 mod fitting_parts;
 #[cfg(test)]
+mod library;
+#[cfg(test)]
 mod long_rows;
 #[cfg(test)]
 mod naming;
