@@ -11,6 +11,8 @@ mod library;
 #[cfg(test)]
 mod long_rows;
 #[cfg(test)]
+mod misfits;
+#[cfg(test)]
 mod naming;
 #[cfg(test)]
 mod small_program;
