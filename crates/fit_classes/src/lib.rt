@@ -1,7 +1,7 @@
-//! Whether the classes of a core program fit, and the first part of a program that doesn't.
+//! Whether a class of a core program fits by itself: its supers, hidden fields, bridges, what it inherits, implements and
+//! initializes.
 //!
-//! `class_fits` is the test `is_class_fit` of `je_fitting`; `first_misfit` searches the parts in order: by class, the class
-//! itself before its fields, and fields before methods.
+//! `class_fits` is the test `is_class_fit` of `je_fitting`, which decides its judgement.
 #![tactic(auto)]
 
 mod bridges;
