@@ -1,6 +1,15 @@
-//! The library's classes in a core program: which row of the library's table a field or method of a library class has.
+//! Core programs that fit, over the library's classes.
+//!
+//! `Typed::check` takes a program whose library stands and answers it as a `Typed`, of which each part fits, or the first
+//! part that doesn't. Contracts see a `Typed` as its program (`program_of`). `library_place` says which row of the library's
+//! table a field or method of a library class has.
 #![tactic(auto)]
 
+mod fault;
 mod library_places;
+mod parts;
+mod typed;
 
+pub use fault::CheckFault;
 pub use library_places::library_place;
+pub use typed::Typed;
