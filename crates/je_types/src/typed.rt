@@ -3,7 +3,7 @@
 ghost use Rattle.std.specs.Prelude.{◌≡◌, true};
 ghost use Rattle.je_core.specs.View.{program_view};
 ghost use Rattle.je_fitting.specs.way.DecidingClasses.{is_program_fit};
-ghost use Rattle.je_types.specs.Library.{LibraryStands};
+ghost use Rattle.library_classes.specs.Library.{LibraryStands};
 ghost use Rattle.je_types.specs.Limits.{IsSmall};
 
 use crate::fault::CheckFault;
@@ -27,7 +27,7 @@ impl Typed {
     ghost use Rattle.je_fitting.specs.Program.{FitsProgram};
     ghost use Rattle.je_fitting.specs.way.DecidingClasses.{is_program_fit};
     ghost use Rattle.je_types.specs.Checked.{IsFault};
-    ghost use Rattle.je_types.specs.Library.{LibraryStands};
+    ghost use Rattle.library_classes.specs.Library.{LibraryStands};
     ghost use Rattle.je_types.specs.Limits.{IsSmall};
     ghost use Rattle.je_types.specs.Views.{program_of};
 
