@@ -1,0 +1,10 @@
+pub mod Keys
+pub mod Texts
+pub mod Firsts
+pub mod Shown
+pub mod ImportSteps
+pub mod Heads
+pub mod Tops
+pub mod Locals
+pub mod Positions
+pub mod Implicit

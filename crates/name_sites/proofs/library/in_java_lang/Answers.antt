@@ -1,0 +1,6 @@
+use Rattle.std.proofs.Common.{ℕ, List, ◌++◌, ◌∙◌, ap}
+use Rattle.je_table.specs.Library.{class_number}
+use Rattle.name_sites.proofs.library.in_java_lang.Goals as goal
+
+pub returns : goal.returns
+returns c = c.class_named.ensures ∙ ap (λ (text : List ℕ). class_number text) (c.as_str.ensures.value ∙ c.in_ok-push_str.ensures.bytes ∙ ap (λ (text : List ℕ). text ++ c.args.simple.now) c.in_ok-full.ensures.ok)
