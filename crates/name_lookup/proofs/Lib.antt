@@ -1,0 +1,5 @@
+pub mod Sets
+pub mod Members
+pub mod Tables
+pub mod Names
+pub mod Walk
