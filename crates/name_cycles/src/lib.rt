@@ -1,0 +1,7 @@
+//! Which classes depend on themselves.
+#![tactic(auto)]
+
+mod cycles;
+mod order;
+
+pub use cycles::{Dependences, on_cycles, read_dependences};
