@@ -3,6 +3,7 @@
 use crate::small_program::{INT, LONG, VOID};
 use class_names::library_words;
 use fit_program::{Part, first_misfit};
+use je_classes::class_count;
 use je_core::{Bridge, Class, ClassId, Field, Memory, Method, Names, Program};
 use library_classes::library_classes;
 use std::alloc::Global;
@@ -26,7 +27,7 @@ fn library(alloc: Global) -> Result<Program, Memory> {
 }
 
 fn misfit_of(alloc: Global, program: &Program) -> Result<Option<(u32, Part)>, Memory> {
-    if program.classes.len() < 1_000 {
+    if class_count(program) < 1_000 {
         let found = first_misfit(alloc, program)?;
         return Ok(found.map(|(class, part)| (class.0, part)));
     }
