@@ -1,3 +1,4 @@
 pub mod Turns
 pub mod Checking
+pub mod SmallPrograms
 mod Rows

@@ -2,3 +2,4 @@ pub mod Places
 pub mod Limits
 pub mod Checked
 pub mod Views
+pub mod way

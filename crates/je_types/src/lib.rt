@@ -7,9 +7,11 @@
 
 mod fault;
 mod library_places;
+mod limits;
 mod parts;
 mod typed;
 
 pub use fault::CheckFault;
 pub use library_places::library_place;
+pub use limits::is_small;
 pub use typed::Typed;
