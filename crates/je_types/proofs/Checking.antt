@@ -1,5 +1,5 @@
 -- What the search for the first misfit says of a program.
-use Rattle.std.proofs.Common.{◌≡◌, ℕ, Option, Some, None, refl, sym, ap, ◌∙◌}
+use Rattle.std.proofs.Common.{◌≡◌, Some, None, ap, ◌∙◌}
 use Rattle.std.specs.Prelude.{true, option_map, slice_get}
 use Rattle.je_base.specs.declared.span.NameId.{NameId}
 use Rattle.je_core.specs.declared.types.ClassId.{ClassId}
@@ -7,7 +7,7 @@ use Rattle.je_core.specs.Core.{CoreField, CoreMethod, CoreClass, CoreProgram}
 use Rattle.je_classes.specs.Fields.{fields_in}
 use Rattle.je_classes.specs.Hierarchy.{class_at}
 use Rattle.je_classes.specs.Members.{methods_in}
-use Rattle.je_fitting.specs.Program.{Part, itself, a_field, a_method, IsPart, is_itself, is_field, is_method, FitsProgram, IsFirstMisfit}
+use Rattle.je_fitting.specs.Program.{Part, IsPart, is_itself, is_field, is_method, FitsProgram, IsFirstMisfit}
 use Rattle.je_fitting.specs.way.DecidingClasses.{is_program_fit}
 use Rattle.je_fitting.specs.way.Misfits.{first_misfit}
 use Rattle.je_fitting.proofs.FirstMisfit.{first, none_misfit, some_misfit}

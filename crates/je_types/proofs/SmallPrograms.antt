@@ -1,12 +1,10 @@
 -- A small program passes the tests, and what passes is small.
-use Rattle.std.proofs.Common.{◌≡◌, ℕ, suc, zero, ◌<◌, ◌≤◌, ◌+◌, ◌*◌, ◌^◌, List, [], ◌∷◌, length, map, refl, sym, ap, ◌∙◌, arith, true, false, Bool}
-use Rattle.std.specs.Prelude.{◌&&◌, nat_lt, sum}
-use Rattle.std.specs.List.{All, list_all}
+use Rattle.std.proofs.Common.{◌≡◌, ℕ, ◌<◌, ◌^◌, length, arith, true}
 use Rattle.std.proofs.lemmas.Bool.Decides.{nat_tests}
 use Rattle.std.proofs.lemmas.List.Elements.{All-weaker}
 use Rattle.std.proofs.lemmas.List.Sums.{AllPass-from_list_all, list_all-from_AllPass}
 use Rattle.je_core.specs.Core.{CoreInitializer, CoreMethod, CoreClass, CoreProgram}
-use Rattle.je_fitting.proofs.Booleans.{two, three, seven, both}
+use Rattle.je_fitting.proofs.Booleans.{three, seven, both}
 use Rattle.je_types.specs.Limits.{ClassIsSmall, IsSmall}
 use Rattle.je_types.specs.way.Small.{begins_few_locals, has_few_locals, is_few, is_small, is_small_class, number_of_statics}
 

@@ -1,5 +1,5 @@
 -- The tests by which a small program is told.
-use Rattle.std.specs.Prelude.{ℕ, ◌+◌, ◌^◌, ◌&&◌, Bool, List, length, nat_lt, sum, map}
+use Rattle.std.specs.Prelude.{ℕ, ◌+◌, ◌^◌, ◌&&◌, Bool, length, nat_lt, sum, map}
 use Rattle.std.specs.List.{list_all}
 use Rattle.je_core.specs.Core.{CoreInitializer, CoreMethod, CoreClass, CoreProgram}
 use Rattle.je_types.specs.Limits.{static_fields}

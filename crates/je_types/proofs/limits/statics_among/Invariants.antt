@@ -1,6 +1,5 @@
-use Rattle.std.proofs.Common.{◌≡◌, ◌≤◌, ◌<◌, ◌+◌, ◌*◌, ◌^◌, drop, map}
+use Rattle.std.proofs.Common.{◌≡◌, ◌≤◌, ◌+◌, ◌*◌, ◌^◌, drop, map}
 use Rattle.std.specs.Prelude.{sum}
-use Rattle.std.specs.List.{count_by}
 use Rattle.je_core.specs.View.{class_view}
 use Rattle.je_types.specs.Limits.{static_fields}
 use Rattle.je_types.proofs.limits.statics_among.Given as goal
