@@ -231,7 +231,8 @@ fn leads_there(
     class: ClassId,
     at: usize,
 ) -> Result<bool, Memory>
-    ensures { IfOk result (λ leads. leads ≡ comes_to (program_view program.now) own name (record { class = class; at = at })) }
+    ensures { IfOk result (λ leads. leads ≡
+        comes_to (program_view program.now) own name (record { class = class; at = at })) }
 {
     let sought = Sought {
         name,
@@ -251,7 +252,8 @@ pub fn has_way(
     class: ClassId,
     at: usize,
 ) -> Result<bool, Memory>
-    ensures { IfOk result (λ has_it. has_it ≡ the_has_way (program_view program.now) own name (record { class = class; at = at })) }
+    ensures { IfOk result (λ has_it. has_it ≡
+        the_has_way (program_view program.now) own name (record { class = class; at = at })) }
 {
     if same_class(class, own) {
         return Ok(true);

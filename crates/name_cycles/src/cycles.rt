@@ -68,7 +68,8 @@ pub fn on_cycles(alloc: Global, sites: &Sites, graph: &Dependences) -> Result<Ve
     requires library { HasLibrary (source_of sites.now) }
     requires fits { AreDependencesOf (source_of sites.now) graph.now }
     ensures whole { IfOk result (λ list. length list.items ≡ length (source_of sites.now).sites) }
-    ensures each { IfOk result (λ list. (c : ℕ) → c < length (source_of sites.now).sites → slice_get list.items c ≡ Some (specs.depends (source_of sites.now) c c)) }
+    ensures each { IfOk result (λ list. (c : ℕ) → c < length (source_of sites.now).sites → slice_get list.items c ≡
+        Some (specs.depends (source_of sites.now) c c)) }
 {
     let count = sites.len();
     let ranks = graph.ranks(alloc)?;

@@ -42,8 +42,10 @@ impl Headers {
         parts: &[Identifier],
     ) -> Result<Meaning, Memory>
         requires { AreHeadersOf (source_of sites.now) self.now }
-        ensures look { IfOk result (λ m. look_view m.look ≡ scope.meaning (source_of sites.now) (known_of self.now) place.class.0 (part_view place.part) parts.now) }
-        ensures named { IfOk result (λ m. numbers m.named.items ≡ scope.named (source_of sites.now) (known_of self.now) place.class.0 (part_view place.part) parts.now) }
+        ensures look { IfOk result (λ m. look_view m.look ≡
+            scope.meaning (source_of sites.now) (known_of self.now) place.class.0 (part_view place.part) parts.now) }
+        ensures named { IfOk result (λ m. numbers m.named.items ≡
+            scope.named (source_of sites.now) (known_of self.now) place.class.0 (part_view place.part) parts.now) }
     {
         let Some((first, further)) = parts.split_first() else {
             return Ok(Meaning {
@@ -77,8 +79,10 @@ impl Headers {
         further: &[Identifier],
     ) -> Result<Meaning, Memory>
         requires { AreHeadersOf (source_of sites.now) self.now }
-        ensures look { IfOk result (λ m. look_view m.look ≡ scope.qualified (source_of sites.now) (known_of self.now) (look_view first) further.now) }
-        ensures named { IfOk result (λ m. numbers m.named.items ≡ scope.named_on (source_of sites.now) (known_of self.now) (look_view first) further.now) }
+        ensures look { IfOk result (λ m. look_view m.look ≡
+            scope.qualified (source_of sites.now) (known_of self.now) (look_view first) further.now) }
+        ensures named { IfOk result (λ m. numbers m.named.items ≡
+            scope.named_on (source_of sites.now) (known_of self.now) (look_view first) further.now) }
     {
         let mut named = Vec::new(alloc);
         let mut look = first;
@@ -99,7 +103,8 @@ impl Headers {
         name: NameId,
     ) -> Result<Look, Memory>
         requires { AreHeadersOf (source_of sites.now) self.now }
-        ensures { IfOk result (λ found. look_view found ≡ scope.member_of (source_of sites.now) (known_of self.now) name (look_view look)) }
+        ensures { IfOk result (λ found. look_view found ≡
+            scope.member_of (source_of sites.now) (known_of self.now) name (look_view look)) }
     {
         match look {
             Look::Class(class) => self.member_class(alloc, sites, class, name),

@@ -22,7 +22,8 @@ use std::alloc::Global;
 /// Puts each of these that isn't there yet behind the classes that are.
 pub fn add_all(met: &mut IndexSet<ClassId>, classes: &[ClassId]) -> Result<(), Memory>
     ensures gains { OnOk result (Gains (numbers met.old.keys) (numbers met.new.keys) (numbers classes.now)) }
-    ensures distinct { OnOk result (IsDistinct nat_eq (numbers met.old.keys) → IsDistinct nat_eq (numbers met.new.keys)) }
+    ensures distinct { OnOk result (IsDistinct nat_eq (numbers met.old.keys) →
+        IsDistinct nat_eq (numbers met.new.keys)) }
 {
     for class in classes {
         met.insert(*class)?;
@@ -41,7 +42,8 @@ impl Headers {
         name: NameId,
     ) -> Result<Look, Memory>
         requires { AreHeadersOf (source_of sites.now) self.now }
-        ensures { IfOk result (λ look. look_view look ≡ scope.member_class (source_of sites.now) (known_of self.now) name class.0) }
+        ensures { IfOk result (λ look. look_view look ≡
+            scope.member_class (source_of sites.now) (known_of self.now) name class.0) }
     {
         if let Some(member) = sites.declared(Some(class), name) {
             return Ok(Look::Class(member));
@@ -64,7 +66,8 @@ impl Headers {
         name: NameId,
     ) -> Result<Look, Memory>
         requires { AreHeadersOf (source_of sites.now) self.now }
-        ensures { IfOk result (λ look. look_view look ≡ scope.inherited (source_of sites.now) (known_of self.now) name class.0) }
+        ensures { IfOk result (λ look. look_view look ≡
+            scope.inherited (source_of sites.now) (known_of self.now) name class.0) }
     {
         match self.known(class) {
             Some(supers) => self.among(alloc, sites, supers, name),
@@ -82,7 +85,8 @@ impl Headers {
     ) -> Result<Look, Memory>
         requires fits { AreHeadersOf (source_of sites.now) self.now }
         requires within { (c : ℕ) → Contains (numbers supers.now) c → c < length (source_of sites.now).sites }
-        ensures { IfOk result (λ look. look_view look ≡ inherited_from (source_of sites.now) (known_of self.now) name (numbers supers.now)) }
+        ensures { IfOk result (λ look. look_view look ≡
+            inherited_from (source_of sites.now) (known_of self.now) name (numbers supers.now)) }
     {
         let mut met = IndexSet::new(alloc);
         add_all(&mut met, supers)?;
@@ -108,9 +112,11 @@ impl Headers {
         class: ClassId,
         name: NameId,
     ) -> Result<Look, Memory>
-        ensures brings { IfOk result (λ look. look_view look ≡ brings (source_of sites.now) (known_of self.now) name class.0) }
+        ensures brings { IfOk result (λ look. look_view look ≡
+            brings (source_of sites.now) (known_of self.now) name class.0) }
         ensures gains { OnOk result (Gains (numbers met.old.keys) (numbers met.new.keys) (leads_to (source_of sites.now) (known_of self.now) name class.0)) }
-        ensures distinct { OnOk result (IsDistinct nat_eq (numbers met.old.keys) → IsDistinct nat_eq (numbers met.new.keys)) }
+        ensures distinct { OnOk result (IsDistinct nat_eq (numbers met.old.keys) →
+            IsDistinct nat_eq (numbers met.new.keys)) }
     {
         if let Some(member) = sites.declared(Some(class), name) {
             return Ok(inheritable(sites, member));

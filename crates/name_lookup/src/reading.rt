@@ -47,7 +47,8 @@ fn add_super(
     class: ClassId,
     meant: &Meaning,
 ) -> Result<(), Memory>
-    ensures { OnOk result (numbers supers.new.items ≡ numbers supers.old.items ++ given (list_all (scope.is_accessible (source_of sites.now) class.0) (numbers meant.now.named.items)) (look_view meant.now.look)) }
+    ensures { OnOk result (numbers supers.new.items ≡
+        numbers supers.old.items ++ given (list_all (scope.is_accessible (source_of sites.now) class.0) (numbers meant.now.named.items)) (look_view meant.now.look)) }
 {
     if let Look::Class(above) = meant.look {
         if are_accessible(sites, class, meant.named.as_slice()) {
@@ -68,8 +69,10 @@ impl Headers {
         head: &TyName,
     ) -> Result<Meaning, Memory>
         requires { AreHeadersOf (source_of sites.now) self.now }
-        ensures look { IfOk result (λ m. look_view m.look ≡ scope.meaning (source_of sites.now) (known_of self.now) class.0 scope.header (parts_of (type_view head.now))) }
-        ensures named { IfOk result (λ m. numbers m.named.items ≡ scope.named (source_of sites.now) (known_of self.now) class.0 scope.header (parts_of (type_view head.now))) }
+        ensures look { IfOk result (λ m. look_view m.look ≡
+            scope.meaning (source_of sites.now) (known_of self.now) class.0 scope.header (parts_of (type_view head.now))) }
+        ensures named { IfOk result (λ m. numbers m.named.items ≡
+            scope.named (source_of sites.now) (known_of self.now) class.0 scope.header (parts_of (type_view head.now))) }
     {
         self.node_meaning(alloc, sites, class, head)
     }
@@ -82,8 +85,10 @@ impl Headers {
         head: &TyName,
     ) -> Result<Meaning, Memory>
         requires { AreHeadersOf (source_of sites.now) self.now }
-        ensures look { IfOk result (λ m. look_view m.look ≡ scope.meaning (source_of sites.now) (known_of self.now) class.0 scope.header (parts_of (type_node_view head.now))) }
-        ensures named { IfOk result (λ m. numbers m.named.items ≡ scope.named (source_of sites.now) (known_of self.now) class.0 scope.header (parts_of (type_node_view head.now))) }
+        ensures look { IfOk result (λ m. look_view m.look ≡
+            scope.meaning (source_of sites.now) (known_of self.now) class.0 scope.header (parts_of (type_node_view head.now))) }
+        ensures named { IfOk result (λ m. numbers m.named.items ≡
+            scope.named (source_of sites.now) (known_of self.now) class.0 scope.header (parts_of (type_node_view head.now))) }
     {
         match head {
             TyName::Primitive { .. } => Ok(Meaning {

@@ -52,7 +52,8 @@ impl Headers {
         name: NameId,
     ) -> Result<Look, Memory>
         requires { AreHeadersOf (source_of sites.now) self.now }
-        ensures { IfOk result (λ look. look_view look ≡ scope.in_scope (source_of sites.now) (known_of self.now) place.class.0 (part_view place.part) name) }
+        ensures { IfOk result (λ look. look_view look ≡
+            scope.in_scope (source_of sites.now) (known_of self.now) place.class.0 (part_view place.part) name) }
     {
         let mut class = place.class;
         let mut part = place.part;
@@ -80,7 +81,8 @@ impl Headers {
         name: NameId,
     ) -> Result<Look, Memory>
         requires { AreHeadersOf (source_of sites.now) self.now }
-        ensures { IfOk result (λ look. look_view look ≡ scope.nearest (source_of sites.now) (known_of self.now) name (part_view part) class.0) }
+        ensures { IfOk result (λ look. look_view look ≡
+            scope.nearest (source_of sites.now) (known_of self.now) name (part_view part) class.0) }
     {
         let inside = self.in_class(alloc, sites, class, part, name)?;
         if !inside.is_nothing() {
@@ -100,7 +102,8 @@ impl Headers {
         name: NameId,
     ) -> Result<Look, Memory>
         requires { AreHeadersOf (source_of sites.now) self.now }
-        ensures { IfOk result (λ look. look_view look ≡ scope.in_class (source_of sites.now) (known_of self.now) name (part_view part) class.0) }
+        ensures { IfOk result (λ look. look_view look ≡
+            scope.in_class (source_of sites.now) (known_of self.now) name (part_view part) class.0) }
     {
         let variable = variable(sites, class, part, name);
         if let Part::Header = part {

@@ -36,7 +36,8 @@ impl ByName {
     /// Puts a number under a name in a place where none stands.
     #[tactic(auto, unfolding(crate::specs::ByName::kept))]
     pub fn keep(&mut self, place: Option<usize>, name: NameId, value: u32) -> Result<(), Memory>
-        ensures { OnOk result ((p : Option ℕ) (x : NameId) → kept self.new p x ≡ or_else (kept self.old p x) (at_key place name value p x)) }
+        ensures { OnOk result ((p : Option ℕ) (x : NameId) → kept self.new p x ≡
+            or_else (kept self.old p x) (at_key place name value p x)) }
     {
         match self.get(place, name) {
             Some(_) => Ok(()),

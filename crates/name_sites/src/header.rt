@@ -99,14 +99,16 @@ pub fn parameters_of<'a>(written: Written<'a>) -> &'a [TypeParam]
 
 #[tactic(auto, using(je_ast::proofs::Views::declaration_is))]
 fn declared_head(decl: &Decl, at: usize) -> Option<&TyName>
-    ensures lookup { option_map (λ t. type_view t.now) result ≡ slice_get (declared_heads (declaration_view decl.now)) at }
+    ensures lookup { option_map (λ t. type_view t.now) result ≡
+        slice_get (declared_heads (declaration_view decl.now)) at }
     ensures few { OnSome result (at + 1 < 2 ^ 64) }
 {
     declared_head_here(decl, at)
 }
 
 fn declared_head_here(decl: &Decl, at: usize) -> Option<&TyName>
-    ensures lookup { option_map (λ t. type_view t.now) result ≡ slice_get (declared_heads (declaration_node_view decl.now)) at }
+    ensures lookup { option_map (λ t. type_view t.now) result ≡
+        slice_get (declared_heads (declaration_node_view decl.now)) at }
     ensures few { OnSome result (at + 1 < 2 ^ 64) }
 {
     match decl {
@@ -125,7 +127,8 @@ fn head_of_class<'a>(
     implements: &'a [TyName],
     at: usize,
 ) -> Option<&'a TyName>
-    ensures lookup { option_map (λ t. type_view t.now) result ≡ slice_get (with_superclass (type_view_of_option extends.now) (listed (type_views_of implements.now))) at }
+    ensures lookup { option_map (λ t. type_view t.now) result ≡
+        slice_get (with_superclass (type_view_of_option extends.now) (listed (type_views_of implements.now))) at }
     ensures few { OnSome result (at + 1 < 2 ^ 64) }
 {
     match extends {

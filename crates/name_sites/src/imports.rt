@@ -16,7 +16,8 @@ use std::alloc::Global;
 
 /// The class that each unit imports under each name: the first import that names a class of the library (JLS 7.5.1).
 pub fn imported_by_name(alloc: Global, names: &Names, units: &[Unit]) -> Result<ByName, Memory>
-    ensures { IfOk result (λ m. (u : ℕ) (x : NameId) → found (kept m (Some u) x) ≡ first_import names.now x (imports_among units.now u)) }
+    ensures { IfOk result (λ m. (u : ℕ) (x : NameId) → found (kept m (Some u) x) ≡
+        first_import names.now x (imports_among units.now u)) }
 {
     let mut imported = ByName::new(alloc);
     for (at, unit) in units.iter().enumerate() {
@@ -33,7 +34,8 @@ fn keep_imports(
     unit: usize,
     imports: &[Name],
 ) -> Result<(), Memory>
-    ensures { OnOk result ((p : Option ℕ) (x : NameId) → found (kept imported.new p x) ≡ or_further (found (kept imported.old p x)) (in_unit unit p (first_import names.now x (map name_view imports.now)))) }
+    ensures { OnOk result ((p : Option ℕ) (x : NameId) → found (kept imported.new p x) ≡
+        or_further (found (kept imported.old p x)) (in_unit unit p (first_import names.now x (map name_view imports.now)))) }
 {
     for import in imports {
         keep_import(alloc, names, imported, unit, import)?;
@@ -49,7 +51,8 @@ fn keep_import(
     unit: usize,
     import: &Name,
 ) -> Result<(), Memory>
-    ensures { OnOk result ((p : Option ℕ) (x : NameId) → found (kept imported.new p x) ≡ or_further (found (kept imported.old p x)) (in_unit unit p (import_named names.now x (name_view import.now)))) }
+    ensures { OnOk result ((p : Option ℕ) (x : NameId) → found (kept imported.new p x) ≡
+        or_further (found (kept imported.old p x)) (in_unit unit p (import_named names.now x (name_view import.now)))) }
 {
     let Some(last) = last_identifier(&import.parts) else {
         return Ok(());

@@ -55,7 +55,8 @@ fn full_text(alloc: Global, names: &Names, parts: &[Identifier]) -> Result<Strin
 }
 
 fn push_further(text: &mut String, names: &Names, parts: &[Identifier]) -> Result<(), Memory>
-    ensures { OnOk result (string_bytes text.new ≡ string_bytes text.old ++ further_text (map (part_text names.now) parts.now)) }
+    ensures { OnOk result (string_bytes text.new ≡
+        string_bytes text.old ++ further_text (map (part_text names.now) parts.now)) }
 {
     for part in parts {
         text.push('.')?;

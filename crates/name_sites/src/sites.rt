@@ -146,7 +146,8 @@ impl<'a> Sites<'a> {
     /// The nearest local class of a name that is in scope where a class stands, itself among them (JLS 6.3, 14.3).
     #[tactic(auto, using(crate::proofs::Locals::named_here, crate::proofs::Locals::named_further))]
     pub fn local_named(&self, class: ClassId, name: NameId) -> Option<ClassId>
-        ensures { found (number_in result) ≡ first_named (source_of self.now) name (site_at (source_of self.now).sites class.0).spot.locals }
+        ensures { found (number_in result) ≡
+            first_named (source_of self.now) name (site_at (source_of self.now).sites class.0).spot.locals }
     {
         let mut next = Some(class);
         while let Some(here) = next {
@@ -161,7 +162,8 @@ impl<'a> Sites<'a> {
 
     /// The class directly round a class, and the context in which it stands there (JLS 8.1.3).
     pub fn outside(&self, class: ClassId) -> Outside
-        ensures round { (site_at (source_of self.now).sites class.0).spot.round ≡ round_from (source_of self.now).sites (number_in result.within) }
+        ensures round { (site_at (source_of self.now).sites class.0).spot.round ≡
+            round_from (source_of self.now).sites (number_in result.within) }
         ensures within { number_in result.within ≡ within (site_at (source_of self.now).sites class.0) }
         ensures context { context_view result.context ≡ (site_at (source_of self.now).sites class.0).spot.context }
     {
@@ -194,7 +196,8 @@ impl<'a> Sites<'a> {
 
     /// The type at a place among those that a class's header names (JLS 8.1.4, 8.1.5, 9.1.3, 15.9.5).
     pub fn head(&self, class: ClassId, at: usize) -> Option<&'a TyName>
-        ensures lookup { option_map (λ t. type_view t.now) result ≡ slice_get (heads_of (source_of self.now) class.0) at }
+        ensures lookup { option_map (λ t. type_view t.now) result ≡
+            slice_get (heads_of (source_of self.now) class.0) at }
         ensures few { OnSome result (at + 1 < 2 ^ 64) }
     {
         head(self.class(class).written, at)

@@ -68,7 +68,8 @@ impl<'a> Collector<'a> {
         is_local: bool,
     ) -> Result<usize, Memory>
         ensures number { IfOk result (λ n. n ≡ length (collected self.old)) }
-        ensures sites { let number = length (collected self.old) in OnOk result (collected self.new ≡ collected self.old ++ site (written_view written.entry) sort (in_own_scope is_local number (spot_of self.old)) ∷ []) }
+        ensures sites { let number = length (collected self.old) in OnOk result (collected self.new ≡
+            collected self.old ++ site (written_view written.entry) sort (in_own_scope is_local number (spot_of self.old)) ∷ []) }
         ensures stays { OnOk result (spot_of self.new ≡ spot_of self.old) }
     {
         let number = self.classes.len();

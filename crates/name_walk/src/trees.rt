@@ -21,7 +21,8 @@ use je_core::Sort;
 #[cycle(walk)]
 #[tactic(auto, using(je_ast::proofs::Views::view_is))]
 fn expression<'a>(collector: &mut Collector<'a>, expr: &'a Expr) -> Result<(), Memory>
-    ensures sites { OnOk result (collected collector.new ≡ in_expression (spot_of collector.old) (view expr.now) (collected collector.old)) }
+    ensures sites { OnOk result (collected collector.new ≡
+        in_expression (spot_of collector.old) (view expr.now) (collected collector.old)) }
     ensures stays { OnOk result (spot_of collector.new ≡ spot_of collector.old) }
 {
     expression_here(collector, expr)
@@ -29,7 +30,8 @@ fn expression<'a>(collector: &mut Collector<'a>, expr: &'a Expr) -> Result<(), M
 
 #[cycle(walk)]
 fn expression_here<'a>(collector: &mut Collector<'a>, expr: &'a Expr) -> Result<(), Memory>
-    ensures sites { OnOk result (collected collector.new ≡ in_expression (spot_of collector.old) (node_view expr.now) (collected collector.old)) }
+    ensures sites { OnOk result (collected collector.new ≡
+        in_expression (spot_of collector.old) (node_view expr.now) (collected collector.old)) }
     ensures stays { OnOk result (spot_of collector.new ≡ spot_of collector.old) }
 {
     match expr {
@@ -105,7 +107,8 @@ fn expression_here<'a>(collector: &mut Collector<'a>, expr: &'a Expr) -> Result<
 
 #[cycle(walk)]
 fn expressions<'a>(collector: &mut Collector<'a>, list: &'a [Expr]) -> Result<(), Memory>
-    ensures sites { OnOk result (collected collector.new ≡ in_expressions (spot_of collector.old) (views_of list.now) (collected collector.old)) }
+    ensures sites { OnOk result (collected collector.new ≡
+        in_expressions (spot_of collector.old) (views_of list.now) (collected collector.old)) }
     ensures stays { OnOk result (spot_of collector.new ≡ spot_of collector.old) }
 {
     for expr in list {
@@ -119,7 +122,8 @@ fn optional_expression<'a>(
     collector: &mut Collector<'a>,
     expr: &'a Option<Expr>,
 ) -> Result<(), Memory>
-    ensures sites { OnOk result (collected collector.new ≡ in_optional (spot_of collector.old) (view_of_option expr.now) (collected collector.old)) }
+    ensures sites { OnOk result (collected collector.new ≡
+        in_optional (spot_of collector.old) (view_of_option expr.now) (collected collector.old)) }
     ensures stays { OnOk result (spot_of collector.new ≡ spot_of collector.old) }
 {
     match expr {
@@ -131,7 +135,8 @@ fn optional_expression<'a>(
 #[cycle(walk)]
 #[tactic(auto, using(je_ast::proofs::Views::statement_is))]
 fn statement<'a>(collector: &mut Collector<'a>, stmt: &'a Stmt) -> Result<(), Memory>
-    ensures sites { OnOk result (collected collector.new ≡ in_statement (spot_of collector.old) (statement_view stmt.now) (collected collector.old)) }
+    ensures sites { OnOk result (collected collector.new ≡
+        in_statement (spot_of collector.old) (statement_view stmt.now) (collected collector.old)) }
     ensures stays { OnOk result (spot_of collector.new ≡ spot_of collector.old) }
 {
     statement_here(collector, stmt)
@@ -139,7 +144,8 @@ fn statement<'a>(collector: &mut Collector<'a>, stmt: &'a Stmt) -> Result<(), Me
 
 #[cycle(walk)]
 fn statement_here<'a>(collector: &mut Collector<'a>, stmt: &'a Stmt) -> Result<(), Memory>
-    ensures sites { OnOk result (collected collector.new ≡ in_statement (spot_of collector.old) (statement_node_view stmt.now) (collected collector.old)) }
+    ensures sites { OnOk result (collected collector.new ≡
+        in_statement (spot_of collector.old) (statement_node_view stmt.now) (collected collector.old)) }
     ensures stays { OnOk result (spot_of collector.new ≡ spot_of collector.old) }
 {
     match stmt {
@@ -233,8 +239,10 @@ fn statement_here<'a>(collector: &mut Collector<'a>, stmt: &'a Stmt) -> Result<(
 
 #[cycle(walk)]
 fn block_statement<'a>(collector: &mut Collector<'a>, stmt: &'a Stmt) -> Result<(), Memory>
-    ensures sites { OnOk result (collected collector.new ≡ in_statement (spot_of collector.old) (statement_view stmt.now) (collected collector.old)) }
-    ensures spot { OnOk result (spot_of collector.new ≡ behind (spot_of collector.old) (statement_view stmt.now) (length (collected collector.old))) }
+    ensures sites { OnOk result (collected collector.new ≡
+        in_statement (spot_of collector.old) (statement_view stmt.now) (collected collector.old)) }
+    ensures spot { OnOk result (spot_of collector.new ≡
+        behind (spot_of collector.old) (statement_view stmt.now) (length (collected collector.old))) }
 {
     let number = collector.len();
     statement(collector, stmt)?;
@@ -246,7 +254,8 @@ fn block_statement<'a>(collector: &mut Collector<'a>, stmt: &'a Stmt) -> Result<
 
 #[cycle(walk)]
 fn block_statements<'a>(collector: &mut Collector<'a>, list: &'a [Stmt]) -> Result<(), Memory>
-    ensures sites { OnOk result (collected collector.new ≡ in_block (spot_of collector.old) (statement_views_of list.now) (collected collector.old)) }
+    ensures sites { OnOk result (collected collector.new ≡
+        in_block (spot_of collector.old) (statement_views_of list.now) (collected collector.old)) }
     ensures stays { OnOk result (spot_of collector.new ≡ spot_of collector.old) }
 {
     let here = collector.spot();
@@ -260,7 +269,8 @@ fn block_statements<'a>(collector: &mut Collector<'a>, list: &'a [Stmt]) -> Resu
 #[cycle(walk)]
 #[tactic(auto, using(je_ast::proofs::Views::for_initializer_is))]
 fn for_initializer<'a>(collector: &mut Collector<'a>, init: &'a ForInit) -> Result<(), Memory>
-    ensures sites { OnOk result (collected collector.new ≡ in_start (spot_of collector.old) (for_initializer_view init.now) (collected collector.old)) }
+    ensures sites { OnOk result (collected collector.new ≡
+        in_start (spot_of collector.old) (for_initializer_view init.now) (collected collector.old)) }
     ensures stays { OnOk result (spot_of collector.new ≡ spot_of collector.old) }
 {
     for_initializer_here(collector, init)
@@ -268,7 +278,8 @@ fn for_initializer<'a>(collector: &mut Collector<'a>, init: &'a ForInit) -> Resu
 
 #[cycle(walk)]
 fn for_initializer_here<'a>(collector: &mut Collector<'a>, init: &'a ForInit) -> Result<(), Memory>
-    ensures sites { OnOk result (collected collector.new ≡ in_start (spot_of collector.old) (for_initializer_node_view init.now) (collected collector.old)) }
+    ensures sites { OnOk result (collected collector.new ≡
+        in_start (spot_of collector.old) (for_initializer_node_view init.now) (collected collector.old)) }
     ensures stays { OnOk result (spot_of collector.new ≡ spot_of collector.old) }
 {
     match init {
@@ -279,7 +290,8 @@ fn for_initializer_here<'a>(collector: &mut Collector<'a>, init: &'a ForInit) ->
 
 #[cycle(walk)]
 fn variables<'a>(collector: &mut Collector<'a>, list: &'a [Var]) -> Result<(), Memory>
-    ensures sites { OnOk result (collected collector.new ≡ in_variables (spot_of collector.old) (variable_views_of list.now) (collected collector.old)) }
+    ensures sites { OnOk result (collected collector.new ≡
+        in_variables (spot_of collector.old) (variable_views_of list.now) (collected collector.old)) }
     ensures stays { OnOk result (spot_of collector.new ≡ spot_of collector.old) }
 {
     for var in list {
@@ -290,7 +302,8 @@ fn variables<'a>(collector: &mut Collector<'a>, list: &'a [Var]) -> Result<(), M
 
 #[cycle(walk)]
 fn switch_groups<'a>(collector: &mut Collector<'a>, list: &'a [Group]) -> Result<(), Memory>
-    ensures sites { OnOk result (collected collector.new ≡ in_groups (spot_of collector.old) (group_views_of list.now) (collected collector.old)) }
+    ensures sites { OnOk result (collected collector.new ≡
+        in_groups (spot_of collector.old) (group_views_of list.now) (collected collector.old)) }
     ensures stays { OnOk result (spot_of collector.new ≡ spot_of collector.old) }
 {
     for group in list {
@@ -302,7 +315,8 @@ fn switch_groups<'a>(collector: &mut Collector<'a>, list: &'a [Group]) -> Result
 
 #[cycle(walk)]
 fn switch_labels<'a>(collector: &mut Collector<'a>, list: &'a [Label]) -> Result<(), Memory>
-    ensures sites { OnOk result (collected collector.new ≡ in_labels (spot_of collector.old) (label_views_of list.now) (collected collector.old)) }
+    ensures sites { OnOk result (collected collector.new ≡
+        in_labels (spot_of collector.old) (label_views_of list.now) (collected collector.old)) }
     ensures stays { OnOk result (spot_of collector.new ≡ spot_of collector.old) }
 {
     for label in list {
@@ -315,7 +329,8 @@ fn switch_labels<'a>(collector: &mut Collector<'a>, list: &'a [Label]) -> Result
 
 #[cycle(walk)]
 fn catch_blocks<'a>(collector: &mut Collector<'a>, list: &'a [Catch]) -> Result<(), Memory>
-    ensures sites { OnOk result (collected collector.new ≡ in_catches (spot_of collector.old) (catch_views_of list.now) (collected collector.old)) }
+    ensures sites { OnOk result (collected collector.new ≡
+        in_catches (spot_of collector.old) (catch_views_of list.now) (collected collector.old)) }
     ensures stays { OnOk result (spot_of collector.new ≡ spot_of collector.old) }
 {
     for catch in list {
@@ -334,7 +349,8 @@ fn class_body<'a>(
 ) -> Result<(), Memory>
     requires there { number < length (collected collector.old) }
     requires here { (site_at (collected collector.old) number).spot.round ≡ (spot_of collector.old).round }
-    ensures sites { OnOk result (collected collector.new ≡ in_members in_interface (inside number (spot_of collector.old) instance) (member_views_of body.now) (collected collector.old)) }
+    ensures sites { OnOk result (collected collector.new ≡
+        in_members in_interface (inside number (spot_of collector.old) instance) (member_views_of body.now) (collected collector.old)) }
     ensures stays { OnOk result (spot_of collector.new ≡ spot_of collector.old) }
 {
     let here = collector.spot();
@@ -350,7 +366,8 @@ fn class_members<'a>(
     list: &'a [Member],
     in_interface: bool,
 ) -> Result<(), Memory>
-    ensures sites { OnOk result (collected collector.new ≡ in_members in_interface (spot_of collector.old) (member_views_of list.now) (collected collector.old)) }
+    ensures sites { OnOk result (collected collector.new ≡
+        in_members in_interface (spot_of collector.old) (member_views_of list.now) (collected collector.old)) }
     ensures stays { OnOk result (spot_of collector.new ≡ spot_of collector.old) }
 {
     for member in list {
@@ -366,7 +383,8 @@ fn class_member<'a>(
     member: &'a Member,
     in_interface: bool,
 ) -> Result<(), Memory>
-    ensures sites { OnOk result (collected collector.new ≡ in_member in_interface (spot_of collector.old) (member_view member.now) (collected collector.old)) }
+    ensures sites { OnOk result (collected collector.new ≡
+        in_member in_interface (spot_of collector.old) (member_view member.now) (collected collector.old)) }
     ensures stays { OnOk result (spot_of collector.new ≡ spot_of collector.old) }
 {
     class_member_here(collector, member, in_interface)
@@ -378,7 +396,8 @@ fn class_member_here<'a>(
     member: &'a Member,
     in_interface: bool,
 ) -> Result<(), Memory>
-    ensures sites { OnOk result (collected collector.new ≡ in_member in_interface (spot_of collector.old) (member_node_view member.now) (collected collector.old)) }
+    ensures sites { OnOk result (collected collector.new ≡
+        in_member in_interface (spot_of collector.old) (member_node_view member.now) (collected collector.old)) }
     ensures stays { OnOk result (spot_of collector.new ≡ spot_of collector.old) }
 {
     match member {
@@ -430,7 +449,8 @@ fn class_member_here<'a>(
 
 #[cycle(walk)]
 fn optional_block<'a>(collector: &mut Collector<'a>, block: &'a Option<Block>) -> Result<(), Memory>
-    ensures sites { OnOk result (collected collector.new ≡ in_body (spot_of collector.old) (block_view_of_option block.now) (collected collector.old)) }
+    ensures sites { OnOk result (collected collector.new ≡
+        in_body (spot_of collector.old) (block_view_of_option block.now) (collected collector.old)) }
     ensures stays { OnOk result (spot_of collector.new ≡ spot_of collector.old) }
 {
     match block {
@@ -445,7 +465,8 @@ fn constructor_call<'a>(
     collector: &mut Collector<'a>,
     call: &'a ConstructorCall,
 ) -> Result<(), Memory>
-    ensures sites { OnOk result (collected collector.new ≡ in_first (spot_of collector.old) (constructor_invocation_view call.now) (collected collector.old)) }
+    ensures sites { OnOk result (collected collector.new ≡
+        in_first (spot_of collector.old) (constructor_invocation_view call.now) (collected collector.old)) }
     ensures stays { OnOk result (spot_of collector.new ≡ spot_of collector.old) }
 {
     constructor_call_here(collector, call)
@@ -456,7 +477,8 @@ fn constructor_call_here<'a>(
     collector: &mut Collector<'a>,
     call: &'a ConstructorCall,
 ) -> Result<(), Memory>
-    ensures sites { OnOk result (collected collector.new ≡ in_first (spot_of collector.old) (constructor_invocation_node_view call.now) (collected collector.old)) }
+    ensures sites { OnOk result (collected collector.new ≡
+        in_first (spot_of collector.old) (constructor_invocation_node_view call.now) (collected collector.old)) }
     ensures stays { OnOk result (spot_of collector.new ≡ spot_of collector.old) }
 {
     match call {
@@ -474,7 +496,8 @@ fn declaration<'a>(
     sort: Sort,
     is_local: bool,
 ) -> Result<(), Memory>
-    ensures sites { let number = length (collected collector.old) in OnOk result (collected collector.new ≡ in_declaration sort (in_own_scope is_local number (spot_of collector.old)) (declaration_view decl.now) (collected collector.old)) }
+    ensures sites { let number = length (collected collector.old) in OnOk result (collected collector.new ≡
+        in_declaration sort (in_own_scope is_local number (spot_of collector.old)) (declaration_view decl.now) (collected collector.old)) }
     ensures stays { OnOk result (spot_of collector.new ≡ spot_of collector.old) }
 {
     let written = Written::Declared { decl };
@@ -498,7 +521,8 @@ fn declaration<'a>(
 
 /// The classes of a unit, whose place is given.
 pub fn unit<'a>(collector: &mut Collector<'a>, unit: &'a Unit, at: usize) -> Result<(), Memory>
-    ensures { OnOk result (collected collector.new ≡ in_declarations at (map declaration_view unit.now.decls.items) (collected collector.old)) }
+    ensures { OnOk result (collected collector.new ≡
+        in_declarations at (map declaration_view unit.now.decls.items) (collected collector.old)) }
 {
     collector.go_to_top(at);
     for decl in &unit.decls {
