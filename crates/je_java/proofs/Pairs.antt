@@ -3,14 +3,15 @@ use Rattle.std.proofs.Common.{◌≡◌, ℕ, zero, suc, ◌≤◌, List, [], �
 use Rattle.std.specs.Prelude.{ℤ, slice_get, slice_set, nat_eq, Bool}
 use Rattle.je_base.specs.declared.span.NameId.{NameId}
 use Rattle.je_core.specs.declared.object.Obj.{Obj}
-use Rattle.je_core.specs.declared.object.Obj.TheVariants.{Instance}
+use Rattle.je_core.specs.declared.object.Obj.TheVariants.{Instance, Array}
 use Rattle.je_core.specs.declared.types.ClassId.{ClassId}
+use Rattle.je_core.specs.declared.types.Ty.{Ty}
 use Rattle.je_core.specs.declared.value.ObjId.{ObjId}
 use Rattle.je_core.specs.declared.value.Value.{Value}
 use Rattle.je_core.specs.declared.value.Value.TheVariants as value
 use Rattle.je_java.specs.declared.call.Receiver.{Receiver}
 use Rattle.je_java.specs.declared.call.Receiver.TheVariants as receiver
-use Rattle.je_java.specs.World.{class_of, slot_of, with_slot}
+use Rattle.je_java.specs.World.{class_of, type_of, extent_of, slot_of, with_slot}
 use Rattle.je_java.specs.Steps.{State, Own, Public, Answer, Spent, Wrong, Run, Exits, Computation, throw, leave, jump}
 
 -- two runs side by side: when which objects are paired, and which worlds, public parts and answers go together;
@@ -46,6 +47,7 @@ module _ (R : Parts) where
   -- two objects of one kind, whose parts go together
   pub data ObjectRel (k : ℕ) : Obj → Obj → Type 0 where
     instance : {class : ClassId} {vs ws : List Value} → ListRel (ValueRel k) vs ws → ObjectRel k (Instance class vs) (Instance class ws)
+    array : {element : Ty} {vs ws : List Value} → ListRel (ValueRel k) vs ws → ObjectRel k (Array element vs) (Array element ws)
 
   -- two calls on nothing, on two objects that go together, or on a new one each
   pub data ReceiverRel (k : ℕ) : Receiver → Receiver → Type 0 where
@@ -92,6 +94,8 @@ module _ (R : Parts) where
     pub spents : (k : ℕ) (s t : State) → StateRel k s t → R.Answers (Spent s) (Spent t)
     pub references : (k a b c d : ℕ) → R.Pair k a c → R.Pair k b d → nat_eq a b ≡ nat_eq c d
     pub classes : (k : ℕ) (os ps : List Obj) (a b : ℕ) → R.Worlds k os ps → R.Pair k a b → class_of os a ≡ class_of ps b
+    pub types : (k : ℕ) (os ps : List Obj) (a b : ℕ) → R.Worlds k os ps → R.Pair k a b → type_of os a ≡ type_of ps b
+    pub extents : (k : ℕ) (os ps : List Obj) (a b : ℕ) → R.Worlds k os ps → R.Pair k a b → extent_of os a ≡ extent_of ps b
     pub reads : (k : ℕ) (os ps : List Obj) (a b at : ℕ) → R.Worlds k os ps → R.Pair k a b → OptionRel (ValueRel k) (slot_of os a at) (slot_of ps b at)
     pub writes : (k : ℕ) (os ps : List Obj) (a b at : ℕ) (v w : Value) → R.Worlds k os ps → R.Pair k a b → ValueRel k v w → R.Worlds k (with_slot os a at v) (with_slot ps b at w)
     pub makes : (k : ℕ) (os ps : List Obj) (o o' : Obj) → R.Worlds k os ps → ObjectRel k o o' →

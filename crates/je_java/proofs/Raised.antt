@@ -1,7 +1,7 @@
 -- The numbers of the classes that evaluation itself throws.
 use Rattle.std.proofs.Common.{◌≡◌, refl}
 use Rattle.je_classes.specs.Hierarchy.{library_class}
-use Rattle.je_java.specs.Raised.{null_pointer, arithmetic, class_cast}
+use Rattle.je_java.specs.Raised.{null_pointer, arithmetic, array_index, array_store, negative_size, class_cast}
 
 pub null_pointer_is : null_pointer ≡ record { 0 = 34 }
 unfolding null_pointer library_class
@@ -14,3 +14,15 @@ arithmetic_is = refl
 pub class_cast_is : class_cast ≡ record { 0 = 29 }
 unfolding class_cast library_class
 class_cast_is = refl
+
+pub array_store_is : array_store ≡ record { 0 = 28 }
+unfolding array_store library_class
+array_store_is = refl
+
+pub negative_size_is : negative_size ≡ record { 0 = 33 }
+unfolding negative_size library_class
+negative_size_is = refl
+
+pub array_index_is : array_index ≡ record { 0 = 36 }
+unfolding array_index library_class
+array_index_is = refl

@@ -49,7 +49,7 @@ statement form = stmt form nowhere nowhere
 abbrev pub constant : Value → Core
 constant value = expr (Const value [])
 
-abbrev local : ℕ → Core
+abbrev pub local : ℕ → Core
 local at = expr (Local at)
 
 abbrev pub increased : Core → Core
@@ -235,7 +235,7 @@ unfolding java meanings opened int_wrap
 receiver_first = refl
 
 -- a class without members
-abbrev empty : CoreClass
+abbrev pub empty : CoreClass
 empty = record (class_of_methods []) { fields = [] }
 
 -- the same program with as many classes that the last is NullPointerException: its caller's variables are back (the
@@ -433,20 +433,20 @@ stray_jump = refl
 
 -- exceptions: class 1 is E, class 2 is F, a subclass of it; local 1 is what a catch takes
 
-abbrev exception_class : Option ClassId → CoreClass
+abbrev pub exception_class : Option ClassId → CoreClass
 exception_class superclass = record empty { methods = constructor ∷ []; superclass = superclass }
 
-abbrev class_number : ℕ → ClassId
+abbrev pub class_number : ℕ → ClassId
 class_number n = record { 0 = n }
 
-abbrev with_exceptions : List CoreStmt → List CoreClass → CoreProgram
+abbrev pub with_exceptions : List CoreStmt → List CoreClass → CoreProgram
 with_exceptions parts more = record {
   classes = class_of_methods (method true int (local_of int ∷ local_of class_a ∷ []) (body parts) ∷ [])
       ∷ exception_class None ∷ exception_class (Some (class_number 1)) ∷ more;
   texts = [];
 }
 
-abbrev tries : ℕ → List CoreStmt → List CoreClass → Answer
+abbrev pub tries : ℕ → List CoreStmt → List CoreClass → Answer
 tries units parts more = call (with_exceptions parts more) units receiver.None (record { 0 = 0 }) 0 (Int (pos 5) ∷ []) (world []) nothing
 
 -- new E(), new F(): New and its constructor's Block
@@ -524,10 +524,10 @@ spent_is_not_caught = refl
 
 -- casts and `instanceof`
 
-abbrev type_of : ℕ → Ty
+abbrev pub type_of : ℕ → Ty
 type_of n = record { base = ClassBase (class_number n); dims = 0 }
 
-abbrev new_of : ℕ → Core
+abbrev pub new_of : ℕ → Core
 new_of class = expr (New (class_number class) 0 (cores []) [] nowhere)
 
 abbrev asks : Core → ℕ → List CoreStmt

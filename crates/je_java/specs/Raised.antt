@@ -9,5 +9,14 @@ null_pointer = library_class (codes "java.lang.NullPointerException")
 unfoldable pub arithmetic : ClassId
 arithmetic = library_class (codes "java.lang.ArithmeticException")
 
+unfoldable pub array_index : ClassId
+array_index = library_class (codes "java.lang.ArrayIndexOutOfBoundsException")
+
+unfoldable pub array_store : ClassId
+array_store = library_class (codes "java.lang.ArrayStoreException")
+
+unfoldable pub negative_size : ClassId
+negative_size = library_class (codes "java.lang.NegativeArraySizeException")
+
 unfoldable pub class_cast : ClassId
 class_cast = library_class (codes "java.lang.ClassCastException")

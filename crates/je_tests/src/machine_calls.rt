@@ -27,18 +27,27 @@ const INT: Ty = Ty {
     dims: 0,
 };
 
+const INTS: Ty = Ty {
+    base: Base::Int,
+    dims: 1,
+};
+
 const ONLY: ClassId = ClassId(0);
 
-fn node(alloc: Global, form: Form) -> Result<Rc<Expr>, Memory> {
+fn typed(alloc: Global, ty: Ty, form: Form) -> Result<Rc<Expr>, Memory> {
     Ok(Rc::new(
         alloc,
         Expr {
             form,
-            ty: INT,
+            ty,
             span: NOWHERE,
             at: NOWHERE,
         },
     )?)
+}
+
+fn node(alloc: Global, form: Form) -> Result<Rc<Expr>, Memory> {
+    typed(alloc, INT, form)
 }
 
 fn statement(alloc: Global, form: StmtForm) -> Result<Rc<Stmt>, Memory> {
@@ -285,6 +294,85 @@ fn reads_null(alloc: Global) -> Result<Program, Memory> {
     )?;
     let parts = list(alloc, Some(gives(alloc, read)?), None)?;
     program(alloc, method(alloc, true, parts)?, None)
+}
+
+// The second element of the second local.
+fn element(alloc: Global) -> Result<Rc<Expr>, Memory> {
+    let array = local(alloc, 1)?;
+    let index = constant(alloc, 1)?;
+    node(alloc, Form::Index { array, index })
+}
+
+// static int f(int x) { int[] y = new int[x]; y[1] = 40; y[1]++; return y[1] + y.length; }
+fn fills(alloc: Global) -> Result<Program, Memory> {
+    let lengths = list(alloc, Some(local(alloc, 0)?), None)?;
+    let made = typed(alloc, INTS, Form::NewArray { lengths })?;
+    let set = assign(alloc, local(alloc, 1)?, made)?;
+    let fill = assign(alloc, element(alloc)?, constant(alloc, 40)?)?;
+    let update = Form::Update {
+        place: element(alloc)?,
+        op: BinOp::Add,
+        operand: None,
+        gives_old: true,
+    };
+    let expr = node(alloc, update)?;
+    let more = statement(alloc, StmtForm::Do { expr })?;
+    let array = local(alloc, 1)?;
+    let length = node(alloc, Form::Length { array })?;
+    let sum = binary(alloc, BinOp::Add, element(alloc)?, length)?;
+    let mut parts = list(alloc, Some(set), Some(fill))?;
+    parts.push(more)?;
+    parts.push(gives(alloc, sum)?)?;
+    program(alloc, method(alloc, true, parts)?, None)
+}
+
+// static int f(int x) { return new int[x][3].length; }
+fn nests(alloc: Global) -> Result<Program, Memory> {
+    let lengths = list(alloc, Some(local(alloc, 0)?), Some(constant(alloc, 3)?))?;
+    let ty = Ty {
+        base: Base::Int,
+        dims: 2,
+    };
+    let array = typed(alloc, ty, Form::NewArray { lengths })?;
+    let length = node(alloc, Form::Length { array })?;
+    let parts = list(alloc, Some(gives(alloc, length)?), None)?;
+    program(alloc, method(alloc, true, parts)?, None)
+}
+
+// static int f(int x) { return new int[] { 7, 8 }[x]; }
+fn chooses(alloc: Global) -> Result<Program, Memory> {
+    let values = list(alloc, Some(constant(alloc, 7)?), Some(constant(alloc, 8)?))?;
+    let array = typed(alloc, INTS, Form::ArrayOf { values })?;
+    let index = local(alloc, 0)?;
+    let chosen = node(alloc, Form::Index { array, index })?;
+    let parts = list(alloc, Some(gives(alloc, chosen)?), None)?;
+    program(alloc, method(alloc, true, parts)?, None)
+}
+
+fn gave(value: i32) -> Option<Next> {
+    Some(Next::Done(Some(Value::Int(value))))
+}
+
+#[test]
+fn arrays_answer_as_java_does(rt: HostRuntime) -> Result<(), Fail> {
+    let alloc = rt.alloc();
+    let rows = [
+        (fills(alloc)?, 3, 1000, gave(44), 24),
+        (fills(alloc)?, 3, 7, Some(Next::Spent), 5),
+        // a program of one class has no exceptions
+        (fills(alloc)?, 1, 1000, None, 11),
+        (fills(alloc)?, -1, 1000, None, 5),
+        // Block, Return, Length, NewArray, Local, Const, and the elements of three arrays
+        (nests(alloc)?, 2, 1000, gave(2), 14),
+        (chooses(alloc)?, 1, 1000, gave(8), 9),
+        (chooses(alloc)?, 2, 1000, None, 9),
+    ];
+    for (program, arg, units, want, cost) in &rows {
+        if *units <= 100000000 {
+            assert_eq!(rt; run(alloc, program, *arg, *units)?, (*want, *cost));
+        }
+    }
+    Ok(())
 }
 
 #[test]

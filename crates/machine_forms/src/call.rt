@@ -7,12 +7,14 @@ ghost use Rattle.je_java.specs.Steps.{bind};
 ghost use Rattle.je_java.specs.Meaning.{run_method, run_target, run_virtual, run_instance, run_exact, run_new, apply as the_apply, args_of, receiver_of, with_values, adding, call_from as the_call_from, start_call as the_start_call, begin_call as the_begin_call};
 ghost use Rattle.machine_parts.specs.Ways.{built_or, height, gives};
 
-use je_core::{ClassId, Expr, Form, Memory, Method, Program, Slots, Stmt, Value};
+use crate::array::{array_from, make_arrays};
+use je_core::{ClassId, Expr, Form, Memory, Method, Program, Slots, Stmt, Ty, Value};
 use je_heap::Heap;
 use je_java::Target;
-use machine_parts::class::{class_of, dispatched, locals_for, method};
+use machine_parts::class::{dispatched, locals_for, method};
 use machine_parts::frame::{Context, Control, Env, Frame, Made};
 use machine_parts::make::{instance, raise_null_pointer};
+use machine_parts::shape::class_of;
 use machine_parts::stack::Stack;
 use std::mem;
 use std::rc::Rc;
@@ -173,12 +175,13 @@ fn apply(
     context: &mut Context,
     heap: &mut Heap,
     program: &Program,
+    ty: Ty,
     call: &Form,
     this: Value,
     values: Slots,
 ) -> Result<Control, Memory>
     ensures goes { IfOk result (GoesToValue program.now context.old heap.old context.new heap.new
-        (λ p m. the_apply p m (form_view call.now) this values)) }
+        (λ p m. the_apply p m ty (form_view call.now) this values)) }
     ensures short { IfOk result (λ c. height context.new + gives c ≤ height context.old + 1) }
     ensures begun { context.new.begun ≡ context.old.begun }
 {
@@ -192,6 +195,8 @@ fn apply(
         Form::New { class, method, .. } => call_new(
             context, heap, program, *class, *method, values,
         ),
+        Form::NewArray { .. } => make_arrays(context, heap, program, ty, values),
+        Form::ArrayOf { .. } => array_from(context, heap, ty, values),
         _ => Ok(Control::Wrong),
     }
 }
@@ -206,6 +211,8 @@ fn args(form: &Form) -> Option<&Vec<Rc<Expr>>>
         Form::CallVirtual { args, .. } => Some(args),
         Form::CallExact { args, .. } => Some(args),
         Form::New { args, .. } => Some(args),
+        Form::NewArray { lengths } => Some(lengths),
+        Form::ArrayOf { values } => Some(values),
         _ => None,
     }
 }
@@ -235,7 +242,7 @@ fn begin_arg(
     ensures goes { IfOk result (BeginsValue frames.old frames.new
         (λ p m. bind (m.eval (view arg.value)) (adding
         (with_values m (drop next (args_of (form_view call.value.form)))
-        (the_apply p m (form_view call.value.form) this)) done))) }
+        (the_apply p m call.value.ty (form_view call.value.form) this)) done))) }
     ensures short { IfOk result (λ c. length frames.new + gives c ≤ length frames.old + 1) }
 {
     frames.push(Frame::Args {
@@ -250,7 +257,7 @@ fn begin_arg(
 fn begin_receiver(call: Rc<Expr>, receiver: Rc<Expr>, frames: &mut Stack) -> Result<Control, Memory>
     ensures goes { IfOk result (BeginsValue frames.old frames.new
         (λ p m. bind (m.eval (view receiver.value))
-        (the_start_call p m (form_view call.value.form)))) }
+        (the_start_call p m call.value.ty (form_view call.value.form)))) }
     ensures short { IfOk result (λ c. length frames.new + gives c ≤ length frames.old + 1) }
 {
     frames.push(Frame::Receiver { call })?;
@@ -269,13 +276,13 @@ pub fn call_from(
     done: Slots,
 ) -> Result<Control, Memory>
     ensures goes { IfOk result (GoesToValue program.now context.old heap.old context.new heap.new
-        (λ p m. the_call_from p m (form_view call.value.form) this next done)) }
+        (λ p m. the_call_from p m call.value.ty (form_view call.value.form) this next done)) }
     ensures short { IfOk result (λ c. height context.new + gives c ≤ height context.old + 1) }
     ensures begun { context.new.begun ≡ context.old.begun }
 {
     match arg_at(&call.form, next)? {
         Some(arg) => begin_arg(call, this, next + 1, done, arg, &mut context.frames),
-        None => apply(context, heap, program, &call.form, this, done),
+        None => apply(context, heap, program, call.ty, &call.form, this, done),
     }
 }
 
@@ -303,7 +310,7 @@ pub fn start_call(
     this: Value,
 ) -> Result<Control, Memory>
     ensures goes { IfOk result (GoesToValue program.now context.old heap.old context.new heap.new
-        (λ p m. the_start_call p m (form_view call.value.form) this)) }
+        (λ p m. the_start_call p m call.value.ty (form_view call.value.form) this)) }
     ensures short { IfOk result (λ c. height context.new + gives c ≤ height context.old + 1) }
     ensures begun { context.new.begun ≡ context.old.begun }
 {
@@ -320,7 +327,7 @@ pub fn begin_call(
     call: Rc<Expr>,
 ) -> Result<Control, Memory>
     ensures goes { IfOk result (GoesToValue program.now context.old heap.old context.new heap.new
-        (λ p m. the_begin_call p m (form_view call.value.form))) }
+        (λ p m. the_begin_call p m call.value.ty (form_view call.value.form))) }
     ensures short { IfOk result (λ c. height context.new + gives c ≤ height context.old + 1) }
     ensures begun { context.new.begun ≡ context.old.begun }
 {

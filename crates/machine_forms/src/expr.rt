@@ -8,6 +8,7 @@ ghost use Rattle.je_java.specs.Steps.{bind, wrong as the_wrong, get_this, get_lo
 ghost use Rattle.je_java.specs.Meaning.{eval_form, assign_to, set_local, set_field};
 ghost use Rattle.machine_parts.specs.Ways.{height, gives};
 
+use crate::array::{begin_element, begin_length, begin_set_array};
 use crate::call::begin_call;
 use crate::update::begin_update;
 use je_core::{BinOp, ClassId, Expr, Form, Memory, Program, Slots, Ty, UnOp, Value};
@@ -201,6 +202,7 @@ fn begin_assign(form: &Form, value: &Rc<Expr>, frames: &mut Stack) -> Result<Con
             class,
             field,
         } => begin_set_field(object, *class, *field, value, frames),
+        Form::Index { array, index } => begin_set_array(array, index, value, frames),
         _ => Ok(begin_wrong()),
     }
 }
@@ -236,6 +238,8 @@ pub fn begin_expr(
             class,
             field,
         } => begin_field(*class, *field, object, &mut context.frames),
+        Form::Index { array, index } => begin_element(array, index, &mut context.frames),
+        Form::Length { array } => begin_length(array, &mut context.frames),
         Form::Assign { place, value } => begin_place(place, value, &mut context.frames),
         Form::Update { .. } => begin_update(context, heap, program, node),
         Form::Unary { op, operand } => begin_unary(*op, operand, &mut context.frames),
@@ -260,6 +264,7 @@ pub fn begin_expr(
         Form::New { captures, .. } if captures.is_empty() => {
             begin_call(context, heap, program, node)
         }
+        Form::NewArray { .. } | Form::ArrayOf { .. } => begin_call(context, heap, program, node),
         _ => Ok(begin_wrong()),
     }
 }

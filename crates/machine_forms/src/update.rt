@@ -8,16 +8,19 @@ ghost use Rattle.je_core.specs.declared.program.Program.{Program as TheProgram};
 ghost use Rattle.je_heap.specs.Contents.{Contents};
 ghost use Rattle.machine_parts.specs.declared.frame.Env.{Env as TheEnv};
 ghost use Rattle.je_java.specs.Steps.{bind, yields, wrong, get_local, put_local, read_field, write_field};
-ghost use Rattle.je_java.specs.Meaning.{object_in as the_object_in, object_of as the_object_of, fetched, stored, given as the_given, on_operand, update_by as the_update_by, update_at as the_update_at, begin_update as the_begin_update};
+ghost use Rattle.je_java.specs.Arrays.{read_element};
+ghost use Rattle.je_java.specs.Meaning.{object_in as the_object_in, index_in as the_index_in, object_of as the_object_of, index_of as the_index_of, fetched, stored, given as the_given, on_operand, update_by as the_update_by, update_at as the_update_at, update_object as the_update_object, begin_update as the_begin_update};
 ghost use Rattle.machine_parts.specs.Ways.{valued, height, gives};
 ghost use Rattle.machine_parts.specs.way.Clauses.{BeginsValue, GoesToValue, GoesAhead, Fetches, operand_of, fetched_of};
 
 use je_arith::{Outcome, try_binary, try_convert};
 use je_core::{Base, BinOp, ClassId, Expr, Form, Memory, Program, Ty, Value};
 use je_heap::Heap;
+use machine_parts::array::{place_in, store_element};
 use machine_parts::class::field_slot;
 use machine_parts::frame::{Context, Control, Env, Fetched, Frame};
-use machine_parts::make::{raise_arithmetic, raise_null_pointer};
+use machine_parts::make::{raise_arithmetic, raise_array_index, raise_null_pointer};
+use machine_parts::shape::extent_of;
 use machine_parts::stack::Stack;
 use std::rc::Rc;
 
@@ -138,36 +141,83 @@ fn fetch_field(heap: &Heap, program: &Program, class: ClassId, field: u32, objec
     }
 }
 
-// The value of a place, whose object has one.
+fn fetch_element(heap: &Heap, array: Value, index: Value) -> Fetched
+    ensures { (program : TheProgram) (env : TheEnv) →
+        Fetches program heap.now env (λ p. read_element p array index) result }
+{
+    match array {
+        Value::Ref(id) => {
+            let Some(extent) = extent_of(heap, id) else {
+                return Fetched::Wrong;
+            };
+            let Value::Int(index) = index else {
+                return Fetched::Wrong;
+            };
+            match place_in(extent.count, index) {
+                Some(at) => match heap.slot(id, at) {
+                    Some(value) => Fetched::Value(value),
+                    None => Fetched::Wrong,
+                },
+                None => Fetched::Outside,
+            }
+        }
+        Value::Null => Fetched::Null,
+        _ => Fetched::Wrong,
+    }
+}
+
+// The value of a place, whose object and index have values.
 #[tactic(auto)]
-fn fetch(heap: &Heap, program: &Program, env: &Env, place: &Form, object: Value) -> Fetched
-    ensures { Fetches program.now heap.now env.now (λ p. fetched p (form_view place.now) object)
-        result }
+fn fetch(
+    heap: &Heap,
+    program: &Program,
+    env: &Env,
+    place: &Form,
+    object: Value,
+    index: Value,
+) -> Fetched
+    ensures { Fetches program.now heap.now env.now
+        (λ p. fetched p (form_view place.now) object index) result }
 {
     match place {
         Form::Local { local } => fetch_local(env, *local),
         Form::Field { class, field, .. } => fetch_field(heap, program, *class, *field, object),
+        Form::Index { .. } => fetch_element(heap, object, index),
         _ => fetch_wrong(),
     }
 }
 
 // The same, by the place's node.
 #[tactic(auto, using(je_core::proofs::Views::form_of_view))]
-fn fetch_at(heap: &Heap, program: &Program, env: &Env, place: &Expr, object: Value) -> Fetched
+fn fetch_at(
+    heap: &Heap,
+    program: &Program,
+    env: &Env,
+    place: &Expr,
+    object: Value,
+    index: Value,
+) -> Fetched
     ensures { Fetches program.now heap.now env.now
-        (λ p. fetched p (form_of (view place.now)) object) result }
+        (λ p. fetched p (form_of (view place.now)) object index) result }
 {
-    fetch(heap, program, env, &place.form, object)
+    fetch(heap, program, env, &place.form, object, index)
 }
 
 // The value of the place of a compound assignment.
 #[tactic(auto)]
-fn fetch_of(heap: &Heap, program: &Program, env: &Env, form: &Form, object: Value) -> Fetched
-    ensures { Fetches program.now heap.now env.now (λ p. fetched_of p (form_view form.now) object)
-        result }
+fn fetch_of(
+    heap: &Heap,
+    program: &Program,
+    env: &Env,
+    form: &Form,
+    object: Value,
+    index: Value,
+) -> Fetched
+    ensures { Fetches program.now heap.now env.now
+        (λ p. fetched_of p (form_view form.now) object index) result }
 {
     match form {
-        Form::Update { place, .. } => fetch_at(heap, program, env, place, object),
+        Form::Update { place, .. } => fetch_at(heap, program, env, place, object, index),
         _ => fetch_wrong(),
     }
 }
@@ -226,18 +276,19 @@ fn store_field(
     }
 }
 
-// Puts a value into a place, whose object has one, and gives another.
+// Puts a value into a place, whose object and index have values, and gives another.
 fn store(
     context: &mut Context,
     heap: &mut Heap,
     program: &Program,
     place: &Form,
     object: Value,
+    index: Value,
     value: Value,
     given: Value,
 ) -> Result<Control, Memory>
     ensures goes { IfOk result (GoesToValue program.now context.old heap.old context.new heap.new
-        (λ p m. yields given (stored p (form_view place.now) object value))) }
+        (λ p m. yields given (stored p (form_view place.now) object index value))) }
     ensures short { IfOk result (λ c. height context.new + gives c ≤ height context.old + 1) }
     ensures begun { context.new.begun ≡ context.old.begun }
 {
@@ -246,6 +297,7 @@ fn store(
         Form::Field { class, field, .. } => store_field(
             context, heap, program, *class, *field, object, value, given,
         ),
+        Form::Index { .. } => { store_element(context, heap, program, object, index, value, given) }
         _ => Ok(Control::Wrong),
     }
 }
@@ -258,15 +310,25 @@ fn store_at(
     program: &Program,
     place: &Expr,
     object: Value,
+    index: Value,
     value: Value,
     given: Value,
 ) -> Result<Control, Memory>
     ensures goes { IfOk result (GoesToValue program.now context.old heap.old context.new heap.new
-        (λ p m. yields given (stored p (form_of (view place.now)) object value))) }
+        (λ p m. yields given (stored p (form_of (view place.now)) object index value))) }
     ensures short { IfOk result (λ c. height context.new + gives c ≤ height context.old + 1) }
     ensures begun { context.new.begun ≡ context.old.begun }
 {
-    store(context, heap, program, &place.form, object, value, given)
+    store(
+        context,
+        heap,
+        program,
+        &place.form,
+        object,
+        index,
+        value,
+        given,
+    )
 }
 
 // The value of a compound assignment: that of the place before it, or after it.
@@ -284,11 +346,12 @@ pub fn update_by(
     program: &Program,
     node: &Expr,
     object: Value,
+    index: Value,
     old: Value,
     operand: Value,
 ) -> Result<Control, Memory>
     ensures goes { IfOk result (GoesToValue program.now context.old heap.old context.new heap.new
-        (λ p m. the_update_by p node.now.ty (form_view node.now.form) object old operand)) }
+        (λ p m. the_update_by p node.now.ty (form_view node.now.form) object index old operand)) }
     ensures short { IfOk result (λ c. height context.new + gives c ≤ height context.old + 1) }
     ensures begun { context.new.begun ≡ context.old.begun }
 {
@@ -304,7 +367,7 @@ pub fn update_by(
     match update_outcome(node.ty, *op, old, operand) {
         Outcome::Gives(value) => {
             let given = given(*gives_old, old, value);
-            store_at(context, heap, program, place, object, value, given)
+            store_at(context, heap, program, place, object, index, value, given)
         }
         Outcome::ByZero => raise_arithmetic(context, heap, program),
         Outcome::Unfit => Ok(Control::Wrong),
@@ -329,16 +392,22 @@ fn operand(form: &Form) -> Option<&Rc<Expr>>
 fn begin_operand(
     node: Rc<Expr>,
     object: Value,
+    index: Value,
     old: Value,
     operand: Rc<Expr>,
     frames: &mut Stack,
 ) -> Result<Control, Memory>
     ensures goes { IfOk result (BeginsValue frames.old frames.new
         (λ p m. bind (m.eval (view operand.value))
-        (the_update_by p node.value.ty (form_view node.value.form) object old))) }
+        (the_update_by p node.value.ty (form_view node.value.form) object index old))) }
     ensures short { IfOk result (λ c. length frames.new + gives c ≤ length frames.old + 1) }
 {
-    frames.push(Frame::Update { node, object, old })?;
+    frames.push(Frame::Update {
+        node,
+        object,
+        index,
+        old,
+    })?;
     Ok(Control::Eval(operand))
 }
 
@@ -350,24 +419,34 @@ fn with_operand(
     program: &Program,
     node: Rc<Expr>,
     object: Value,
+    index: Value,
     old: Value,
 ) -> Result<Control, Memory>
     ensures goes { IfOk result (GoesToValue program.now context.old heap.old context.new heap.new
         (λ p m. on_operand m (operand_of (form_view node.value.form))
-        (the_update_by p node.value.ty (form_view node.value.form) object old))) }
+        (the_update_by p node.value.ty (form_view node.value.form) object index old))) }
     ensures short { IfOk result (λ c. height context.new + gives c ≤ height context.old + 1) }
     ensures begun { context.new.begun ≡ context.old.begun }
 {
     match operand(&node.form) {
         Some(operand) => {
             let operand = operand.clone()?;
-            begin_operand(node, object, old, operand, &mut context.frames)
+            begin_operand(node, object, index, old, operand, &mut context.frames)
         }
-        None => update_by(context, heap, program, &node, object, old, Value::Int(1)),
+        None => update_by(
+            context,
+            heap,
+            program,
+            &node,
+            object,
+            index,
+            old,
+            Value::Int(1),
+        ),
     }
 }
 
-/// Once the object of the place has a value.
+/// Once the object and the index of the place have values.
 #[tactic(auto)]
 pub fn update_at(
     context: &mut Context,
@@ -375,26 +454,29 @@ pub fn update_at(
     program: &Program,
     node: Rc<Expr>,
     object: Value,
+    index: Value,
 ) -> Result<Control, Memory>
     ensures goes { IfOk result (GoesToValue program.now context.old heap.old context.new heap.new
-        (λ p m. the_update_at p m node.value.ty (form_view node.value.form) object)) }
+        (λ p m. the_update_at p m node.value.ty (form_view node.value.form) object index)) }
     ensures short { IfOk result (λ c. height context.new + gives c ≤ height context.old + 1) }
     ensures begun { context.new.begun ≡ context.old.begun }
 {
-    match fetch_of(heap, program, &context.env, &node.form, object) {
-        Fetched::Value(old) => with_operand(context, heap, program, node, object, old),
+    match fetch_of(heap, program, &context.env, &node.form, object, index) {
+        Fetched::Value(old) => with_operand(context, heap, program, node, object, index, old),
         Fetched::Null => raise_null_pointer(context, heap, program),
+        Fetched::Outside => raise_array_index(context, heap, program),
         Fetched::Wrong => Ok(Control::Wrong),
     }
 }
 
-// The object that a place evaluates first.
+// The object, or the array, that a place evaluates first.
 fn object_in(place: &Form) -> Option<&Rc<Expr>>
     ensures { MatchOption result (the_object_in (form_view place.now) ≡ None)
         (λ e. the_object_in (form_view place.now) ≡ Some (view e.now.value)) }
 {
     match place {
         Form::Field { object, .. } => Some(object),
+        Form::Index { array, .. } => Some(array),
         _ => None,
     }
 }
@@ -417,11 +499,79 @@ fn object(form: &Form) -> Option<&Rc<Expr>>
     }
 }
 
+// The index that a place evaluates behind its array.
+fn index_in(place: &Form) -> Option<&Rc<Expr>>
+    ensures { MatchOption result (the_index_in (form_view place.now) ≡ None)
+        (λ e. the_index_in (form_view place.now) ≡ Some (view e.now.value)) }
+{
+    match place {
+        Form::Index { index, .. } => Some(index),
+        _ => None,
+    }
+}
+
+#[tactic(auto, using(je_core::proofs::Views::form_of_view))]
+fn index_at(place: &Expr) -> Option<&Rc<Expr>>
+    ensures { MatchOption result (the_index_in (form_of (view place.now)) ≡ None)
+        (λ e. the_index_in (form_of (view place.now)) ≡ Some (view e.now.value)) }
+{
+    index_in(&place.form)
+}
+
+fn index(form: &Form) -> Option<&Rc<Expr>>
+    ensures { MatchOption result (the_index_of (form_view form.now) ≡ None)
+        (λ e. the_index_of (form_view form.now) ≡ Some (view e.now.value)) }
+{
+    match form {
+        Form::Update { place, .. } => index_at(place),
+        _ => None,
+    }
+}
+
+#[tactic(auto, unfolding(machine_parts::specs::way::Opened::opened))]
+fn begin_index(
+    node: Rc<Expr>,
+    object: Value,
+    index: Rc<Expr>,
+    frames: &mut Stack,
+) -> Result<Control, Memory>
+    ensures goes { IfOk result (BeginsValue frames.old frames.new
+        (λ p m. bind (m.eval (view index.value))
+        (the_update_at p m node.value.ty (form_view node.value.form) object))) }
+    ensures short { IfOk result (λ c. length frames.new + gives c ≤ length frames.old + 1) }
+{
+    frames.push(Frame::UpdateIndex { node, object })?;
+    Ok(Control::Eval(index))
+}
+
+/// Once the object of the place has a value.
+#[tactic(auto, unfolding(je_java::specs::Meaning::update_object))]
+pub fn update_object(
+    context: &mut Context,
+    heap: &mut Heap,
+    program: &Program,
+    node: Rc<Expr>,
+    object: Value,
+) -> Result<Control, Memory>
+    ensures goes { IfOk result (GoesToValue program.now context.old heap.old context.new heap.new
+        (λ p m. the_update_object p m node.value.ty (form_view node.value.form) object)) }
+    ensures short { IfOk result (λ c. height context.new + gives c ≤ height context.old + 1) }
+    ensures begun { context.new.begun ≡ context.old.begun }
+{
+    match index(&node.form) {
+        Some(index) => {
+            let index = index.clone()?;
+            begin_index(node, object, index, &mut context.frames)
+        }
+        None => update_at(context, heap, program, node, object, Value::Null),
+    }
+}
+
 #[tactic(auto, unfolding(machine_parts::specs::way::Opened::opened))]
 fn begin_object(node: Rc<Expr>, object: Rc<Expr>, frames: &mut Stack) -> Result<Control, Memory>
     ensures goes { IfOk result (BeginsValue frames.old frames.new
         (λ p m. bind (m.eval (view object.value))
-        (the_update_at p m node.value.ty (form_view node.value.form)))) }
+        (the_update_object p m node.value.ty (form_view node.value.form)))) }
     ensures short { IfOk result (λ c. length frames.new + gives c ≤ length frames.old + 1) }
 {
     frames.push(Frame::UpdateObject { node })?;
@@ -446,6 +596,6 @@ pub fn begin_update(
             let object = object.clone()?;
             begin_object(node, object, &mut context.frames)
         }
-        None => update_at(context, heap, program, node, Value::Null),
+        None => update_object(context, heap, program, node, Value::Null),
     }
 }

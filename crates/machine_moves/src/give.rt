@@ -8,8 +8,10 @@ ghost use Rattle.machine_parts.specs.Ways.{frame_ways, height, gives};
 
 use je_core::{BinOp, ClassId, Expr, Memory, ObjId, Program, Value};
 use je_heap::Heap;
+use machine_forms::array::{begin_index, begin_set_element, begin_set_index};
 use machine_forms::call::{call_from, start_call};
-use machine_forms::update::{update_at, update_by};
+use machine_forms::update::{update_at, update_by, update_object};
+use machine_parts::array::{length_of, read_element, write_element};
 use machine_parts::field::{read_field, write_field, write_local};
 use machine_parts::frame::{Context, Control, End, Frame};
 use machine_parts::kind::{cast, is_instance};
@@ -86,12 +88,30 @@ pub fn give(
             field,
             object,
         } => write_field(context, heap, program, class, field, object, value),
+        Frame::ReadArray { index } => begin_index(value, index, &mut context.frames),
+        Frame::ReadElement { array } => read_element(context, heap, program, array, value),
+        Frame::Length => length_of(context, heap, program, value),
+        Frame::SetArray { index, value: next } => {
+            begin_set_index(value, index, next, &mut context.frames)
+        }
+        Frame::SetIndex { array, value: next } => {
+            begin_set_element(array, value, next, &mut context.frames)
+        }
+        Frame::SetElement { array, index } => {
+            write_element(context, heap, program, array, index, value)
+        }
         Frame::Left { op, right } => begin_right(op, value, right, &mut context.frames),
         Frame::Right { op, left } => binary(context, heap, program, op, left, value),
-        Frame::UpdateObject { node } => update_at(context, heap, program, node, value),
-        Frame::Update { node, object, old } => {
-            update_by(context, heap, program, &node, object, old, value)
+        Frame::UpdateObject { node } => update_object(context, heap, program, node, value),
+        Frame::UpdateIndex { node, object } => {
+            update_at(context, heap, program, node, object, value)
         }
+        Frame::Update {
+            node,
+            object,
+            index,
+            old,
+        } => update_by(context, heap, program, &node, object, index, old, value),
         Frame::Operand { op } => Ok(unary(op, value)),
         Frame::Converted { ty } => Ok(convert(ty, value)),
         Frame::Cast { ty } => cast(context, heap, program, ty, value),

@@ -10,10 +10,11 @@ use je_core::{ClassId, Memory, Method, ObjId, Program, Slots, Stmt, Value};
 use je_heap::Heap;
 use je_java::{Receiver, Target};
 use machine_forms::call::body;
-use machine_parts::class::{class_of, dispatched, locals_for, method};
+use machine_parts::class::{dispatched, locals_for, method};
 use machine_parts::frame::{Call, Context, Control, Env, Made, Reply};
 use machine_parts::make::instance;
 use machine_parts::reply::nobody;
+use machine_parts::shape::class_of;
 use machine_parts::stack::Stack;
 use std::rc::Rc;
 

@@ -3,3 +3,4 @@ pub mod Seen
 pub mod Fields
 pub mod Subclasses
 pub mod Results
+pub mod Shapes

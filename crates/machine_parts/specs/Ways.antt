@@ -9,9 +9,10 @@ use Rattle.je_core.specs.View.{view, form_view, stmt_view, stmt_form_view}
 use Rattle.je_heap.specs.Contents.{Contents}
 use Rattle.je_core.specs.declared.value.Value.TheVariants.{Bool as Truth}
 use Rattle.je_java.specs.Steps.{State, Outside, Own, Done as DoneRun, Thrown, Spent, Wrong, Run, Exits, Computation, Nothing, ret, ◌>>=◌, leave, takes, is_label, landing, breaking, after_all, throw_value, out_of, with_own, put_local, binary, unary, convert, is_instance, cast, branch, read_field, write_field}
-use Rattle.je_java.specs.Meaning.{Meanings, block, tested, further, labels_of, caught, parts_in, fallen_through, switched, update_at, update_by, call_from, start_call, call_by, ends, nobody}
+use Rattle.je_java.specs.Arrays.{length_of, read_element, write_element}
+use Rattle.je_java.specs.Meaning.{Meanings, block, tested, further, labels_of, caught, parts_in, fallen_through, switched, update_object, update_at, update_by, call_from, start_call, call_by, ends, nobody}
 use Rattle.machine_parts.specs.declared.frame.Frame.{Frame}
-use Rattle.machine_parts.specs.declared.frame.Frame.TheVariants.{ReadField, SetLocal, SetObject, SetField, UpdateObject, Update as UpdateFrame, Operand, Converted, Cast as CastFrame, InstanceOf as InstanceFrame, Left, Right, And as AndFrame, Or as OrFrame, Choose as ChooseFrame, Test, Body, Steps, Labelled as LabelledFrame, Switch as SwitchFrame, Cases, Try as TryFrame, Finally, Finishing, Thrown as ThrownFrame, Receiver, Args, Called, Parts, Ignored, Returned}
+use Rattle.machine_parts.specs.declared.frame.Frame.TheVariants.{ReadField, SetLocal, SetObject, SetField, ReadArray, ReadElement, Length as LengthFrame, SetArray, SetIndex, SetElement, UpdateObject, UpdateIndex, Update as UpdateFrame, Operand, Converted, Cast as CastFrame, InstanceOf as InstanceFrame, Left, Right, And as AndFrame, Or as OrFrame, Choose as ChooseFrame, Test, Body, Steps, Labelled as LabelledFrame, Switch as SwitchFrame, Cases, Try as TryFrame, Finally, Finishing, Thrown as ThrownFrame, Receiver, Args, Called, Parts, Ignored, Returned}
 use Rattle.machine_parts.specs.declared.frame.Env.{Env}
 use Rattle.machine_parts.specs.declared.frame.End.{End}
 use Rattle.machine_parts.specs.declared.frame.End.TheVariants.{Next as NextEnd, Leave as LeaveEnd, Throw as ThrowEnd, Jump as JumpEnd}
@@ -123,8 +124,22 @@ frame_ways program m (Left op right) k = giving (λ a. do
   b ← m.eval (view right.value)
   binary program op a b) k
 frame_ways program m (Right op left) k = giving (λ b. binary program op left b) k
-frame_ways program m (UpdateObject node) k = giving (λ o. update_at program m node.value.ty (form_view node.value.form) o) k
-frame_ways program m (UpdateFrame node object old) k = giving (λ b. update_by program node.value.ty (form_view node.value.form) object old b) k
+frame_ways program m (ReadArray index) k = giving (λ a. do
+  i ← m.eval (view index.value)
+  read_element program a i) k
+frame_ways program m (ReadElement array) k = giving (λ i. read_element program array i) k
+frame_ways program m LengthFrame k = giving (λ a. length_of program a) k
+frame_ways program m (SetArray index value) k = giving (λ a. do
+  i ← m.eval (view index.value)
+  v ← m.eval (view value.value)
+  write_element program a i v) k
+frame_ways program m (SetIndex array value) k = giving (λ i. do
+  v ← m.eval (view value.value)
+  write_element program array i v) k
+frame_ways program m (SetElement array index) k = giving (λ v. write_element program array index v) k
+frame_ways program m (UpdateObject node) k = giving (λ o. update_object program m node.value.ty (form_view node.value.form) o) k
+frame_ways program m (UpdateIndex node object) k = giving (λ i. update_at program m node.value.ty (form_view node.value.form) object i) k
+frame_ways program m (UpdateFrame node object index old) k = giving (λ b. update_by program node.value.ty (form_view node.value.form) object index old b) k
 frame_ways program m (Operand op) k = giving (λ a. unary op a) k
 frame_ways program m (Converted ty) k = giving (λ a. convert ty a) k
 frame_ways program m (CastFrame ty) k = giving (λ a. cast program ty a) k
@@ -143,8 +158,8 @@ frame_ways program m (Finally node) k = finishes (last_of (stmt_form_view node.v
 frame_ways program m (Finishing end) k = record { give = k.give; next = λ u. ended_by end k; out = k.out }
 frame_ways program m ThrownFrame k = doing (λ v. throw_value program v) k
 frame_ways program m (LabelledFrame label node) k = landed (is_label label) (m.again (stmt_view node.value)) k
-frame_ways program m (Receiver call) k = giving (λ this. start_call program m (form_view call.value.form) this) k
-frame_ways program m (Args call this next done) k = giving (λ v. call_from program m (form_view call.value.form) this next (done ++ v ∷ [])) k
+frame_ways program m (Receiver call) k = giving (λ this. start_call program m call.value.ty (form_view call.value.form) this) k
+frame_ways program m (Args call this next done) k = giving (λ v. call_from program m call.value.ty (form_view call.value.form) this next (done ++ v ∷ [])) k
 frame_ways program m (Called caller result built) k = called (own_of caller) result (built_or built k.give) k
 frame_ways program m (Parts node next) k = going (block m (drop next (parts_of (stmt_form_view node.value.form)))) k
 frame_ways program m Ignored k = doing (λ v. ret tt) k

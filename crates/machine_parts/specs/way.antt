@@ -1,3 +1,4 @@
 -- What only proofs and the clauses of private functions cite.
 pub mod Opened
 pub mod Clauses
+pub mod Shapes

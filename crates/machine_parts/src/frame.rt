@@ -119,14 +119,45 @@ pub enum Frame {
         field: u32,
         object: Value,
     },
-    /// The object of a place that a compound assignment changes is being evaluated.
+    /// The array of an element is being evaluated.
+    ReadArray {
+        index: Rc<Expr>,
+    },
+    /// The index of an element is being evaluated.
+    ReadElement {
+        array: Value,
+    },
+    /// The array whose length is asked is being evaluated.
+    Length,
+    /// The array of an assignment to an element is being evaluated.
+    SetArray {
+        index: Rc<Expr>,
+        value: Rc<Expr>,
+    },
+    /// The index of an assignment to an element is being evaluated.
+    SetIndex {
+        array: Value,
+        value: Rc<Expr>,
+    },
+    /// The value of an assignment to an element is being evaluated.
+    SetElement {
+        array: Value,
+        index: Value,
+    },
+    /// The object, or the array, of a place that a compound assignment changes is being evaluated.
     UpdateObject {
         node: Rc<Expr>,
+    },
+    /// The index of an element that a compound assignment changes is being evaluated.
+    UpdateIndex {
+        node: Rc<Expr>,
+        object: Value,
     },
     /// The operand of a compound assignment is being evaluated.
     Update {
         node: Rc<Expr>,
         object: Value,
+        index: Value,
         old: Value,
     },
     /// The one operand is being evaluated.
@@ -245,6 +276,8 @@ pub enum Fetched {
     Value(Value),
     /// The object of the place is null.
     Null,
+    /// The array of the place has no element of its index.
+    Outside,
     Wrong,
 }
 

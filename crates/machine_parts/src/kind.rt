@@ -1,27 +1,16 @@
 // Casts and `instanceof`: of which type an object is.
 
 ghost use Rattle.std.specs.Prelude.{◌≡◌, ◌≤◌, ◌+◌, IfOk};
-ghost use Rattle.je_classes.specs.Subtypes.{class_type as the_class_type};
 ghost use Rattle.je_java.specs.Steps.{is_instance as the_is_instance, cast as the_cast};
 ghost use Rattle.machine_parts.specs.Ways.{height, gives};
 ghost use Rattle.machine_parts.specs.way.Clauses.{GoesToValue};
 
-use crate::class::class_of;
 use crate::frame::{Context, Control};
 use crate::make::raise_class_cast;
+use crate::shape::type_of;
 use je_classes::is_subtype;
-use je_core::{Base, ClassId, Memory, Program, Ty, Value};
+use je_core::{Memory, Program, Ty, Value};
 use je_heap::Heap;
-
-// The type of a class's instances.
-fn class_type(class: ClassId) -> Ty
-    ensures { result ≡ the_class_type class }
-{
-    Ty {
-        base: Base::Class(class),
-        dims: 0,
-    }
-}
 
 /// Whether a value refers to an object of a type.
 pub fn is_instance(
@@ -38,10 +27,10 @@ pub fn is_instance(
     match value {
         Value::Null => Ok(Control::Give(Value::Bool(false))),
         Value::Ref(object) => {
-            let Some(own) = class_of(heap, object) else {
+            let Some(own) = type_of(heap, object) else {
                 return Ok(Control::Wrong);
             };
-            let holds = is_subtype(context.alloc, program, class_type(own), of)?;
+            let holds = is_subtype(context.alloc, program, own, of)?;
             Ok(Control::Give(Value::Bool(holds)))
         }
         _ => Ok(Control::Wrong),
@@ -64,10 +53,10 @@ pub fn cast(
     match value {
         Value::Null => Ok(Control::Give(value)),
         Value::Ref(object) => {
-            let Some(own) = class_of(heap, object) else {
+            let Some(own) = type_of(heap, object) else {
                 return Ok(Control::Wrong);
             };
-            if is_subtype(context.alloc, program, class_type(own), ty)? {
+            if is_subtype(context.alloc, program, own, ty)? {
                 Ok(Control::Give(value))
             } else {
                 raise_class_cast(context, heap, program)

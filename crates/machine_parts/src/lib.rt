@@ -4,11 +4,13 @@
 //! the rest of one case of evaluation; `specs/way/Clauses.antt` has the sentences of which the moves' contracts are made.
 #![tactic(auto, unfolding(crate::specs::way::Opened::opened))]
 
+pub mod array;
 pub mod class;
 pub mod field;
 pub mod frame;
 pub mod kind;
 pub mod make;
 pub mod reply;
+pub mod shape;
 pub mod stack;
 pub mod value;

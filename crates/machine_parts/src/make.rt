@@ -3,7 +3,7 @@
 ghost use Rattle.std.specs.Prelude.{◌≡◌, ◌≤◌, ◌+◌, IfOk};
 ghost use Rattle.machine_parts.specs.way.Clauses.{GoesToValue, GoesToEnd, Makes, MakesApart, Raises};
 ghost use Rattle.je_java.specs.Steps.{raise as the_raise, throw_value as the_throw_value};
-ghost use Rattle.je_java.specs.Raised.{null_pointer, arithmetic, class_cast};
+ghost use Rattle.je_java.specs.Raised.{null_pointer, arithmetic, array_index, array_store, negative_size, class_cast};
 ghost use Rattle.machine_parts.specs.Ways.{height, gives};
 
 use crate::class::fresh_slots;
@@ -34,6 +34,30 @@ fn class_cast_class() -> ClassId
     ensures { result ≡ class_cast }
 {
     ClassId(LibraryClass::ClassCastException.number())
+}
+
+// ArrayIndexOutOfBoundsException.
+#[tactic(auto, unfolding(je_classes::specs::Hierarchy::library_class, je_java::specs::Raised::array_index))]
+fn array_index_class() -> ClassId
+    ensures { result ≡ array_index }
+{
+    ClassId(LibraryClass::ArrayIndexOutOfBoundsException.number())
+}
+
+// ArrayStoreException.
+#[tactic(auto, unfolding(je_classes::specs::Hierarchy::library_class, je_java::specs::Raised::array_store))]
+fn array_store_class() -> ClassId
+    ensures { result ≡ array_store }
+{
+    ClassId(LibraryClass::ArrayStoreException.number())
+}
+
+// NegativeArraySizeException.
+#[tactic(auto, unfolding(je_classes::specs::Hierarchy::library_class, je_java::specs::Raised::negative_size))]
+fn negative_size_class() -> ClassId
+    ensures { result ≡ negative_size }
+{
+    ClassId(LibraryClass::NegativeArraySizeException.number())
 }
 
 /// An instance of a class, whose slots are paid for before it is made.
@@ -140,4 +164,46 @@ pub fn raise_class_cast(
     ensures begun { context.new.begun ≡ context.old.begun }
 {
     raise(context, heap, program, class_cast_class())
+}
+
+/// Throws a new ArrayIndexOutOfBoundsException.
+pub fn raise_array_index(
+    context: &mut Context,
+    heap: &mut Heap,
+    program: &Program,
+) -> Result<Control, Memory>
+    ensures goes { IfOk result (GoesToValue program.now context.old heap.old context.new heap.new
+        (λ p m. the_raise p array_index)) }
+    ensures short { IfOk result (λ c. height context.new + gives c ≤ height context.old + 1) }
+    ensures begun { context.new.begun ≡ context.old.begun }
+{
+    raise(context, heap, program, array_index_class())
+}
+
+/// Throws a new NegativeArraySizeException.
+pub fn raise_negative_size(
+    context: &mut Context,
+    heap: &mut Heap,
+    program: &Program,
+) -> Result<Control, Memory>
+    ensures goes { IfOk result (GoesToValue program.now context.old heap.old context.new heap.new
+        (λ p m. the_raise p negative_size)) }
+    ensures short { IfOk result (λ c. height context.new + gives c ≤ height context.old + 1) }
+    ensures begun { context.new.begun ≡ context.old.begun }
+{
+    raise(context, heap, program, negative_size_class())
+}
+
+/// Throws a new ArrayStoreException.
+pub fn raise_array_store(
+    context: &mut Context,
+    heap: &mut Heap,
+    program: &Program,
+) -> Result<Control, Memory>
+    ensures goes { IfOk result (GoesToValue program.now context.old heap.old context.new heap.new
+        (λ p m. the_raise p array_store)) }
+    ensures short { IfOk result (λ c. height context.new + gives c ≤ height context.old + 1) }
+    ensures begun { context.new.begun ≡ context.old.begun }
+{
+    raise(context, heap, program, array_store_class())
 }

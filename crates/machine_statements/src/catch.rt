@@ -11,8 +11,9 @@ ghost use Rattle.machine_parts.specs.way.Clauses.{BeginsEnd, IsAhead, GoesAhead,
 
 use je_core::{Catch, ClassId, Expr, Memory, ObjId, Program, Stmt, StmtForm, Value};
 use je_heap::Heap;
-use machine_parts::class::{class_of, is_subclass};
+use machine_parts::class::is_subclass;
 use machine_parts::frame::{Context, Control, End, Frame};
+use machine_parts::shape::class_of;
 use machine_parts::stack::Stack;
 use std::rc::Rc;
 

@@ -1,12 +1,13 @@
 -- What a control stands for, before frames and in a state: the clauses of the functions that begin a node or take what
 -- comes.
-use Rattle.std.specs.Prelude.{◌≡◌, ◌≢◌, ◌<◌, ◌+◌, ℕ, List, [], ◌∷◌, drop, Option, Some, None}
+use Rattle.std.specs.Prelude.{◌≡◌, ◌≢◌, ◌<◌, ◌+◌, ℕ, List, [], ◌∷◌, drop, Option, Some, None, Bool, if◌then◌else◌}
 use Rattle.std.specs.declared.rc.Rc.{Rc}
 use Rattle.std.specs.declared.alloc.Global.{Global}
 use Rattle.je_core.specs.declared.value.ObjId.{ObjId}
 use Rattle.je_core.specs.declared.value.Value.{Value}
 use Rattle.je_core.specs.declared.value.Value.TheVariants.{Ref}
 use Rattle.je_core.specs.declared.types.ClassId.{ClassId}
+use Rattle.je_core.specs.declared.types.Ty.{Ty}
 use Rattle.je_core.specs.declared.program.Program.{Program}
 use Rattle.je_core.specs.declared.expr.Expr.{Expr}
 use Rattle.je_core.specs.declared.stmt.Stmt.{Stmt}
@@ -14,14 +15,15 @@ use Rattle.je_core.specs.Core.{Core, CoreForm, Update, CoreStmt, CoreGroup, Core
 use Rattle.je_core.specs.View.{view, stmt_view, program_view}
 use Rattle.je_heap.specs.Contents.{Contents}
 use Rattle.je_java.specs.Steps.{State, Outside, Own, Done, Spent, Wrong, Run, Exits, Computation, Nothing, ◌>>◌, ret, wrong, raise, throw, put_local, with_own, make}
-use Rattle.je_java.specs.Raised.{null_pointer}
+use Rattle.je_java.specs.Raised.{null_pointer, array_index, array_store}
+use Rattle.je_java.specs.Arrays.{storable}
 use Rattle.je_java.specs.Meaning.{Meanings, fetched, java, ends, nobody}
 use Rattle.machine_parts.specs.declared.frame.Frame.{Frame}
 use Rattle.machine_parts.specs.declared.frame.Env.{Env}
 use Rattle.machine_parts.specs.declared.frame.Context.{Context}
 use Rattle.machine_parts.specs.declared.frame.Control.{Control}
 use Rattle.machine_parts.specs.declared.frame.Fetched.{Fetched}
-use Rattle.machine_parts.specs.declared.frame.Fetched.TheVariants.{Value as FetchedValue, Null as FetchedNull, Wrong as FetchedWrong}
+use Rattle.machine_parts.specs.declared.frame.Fetched.TheVariants.{Value as FetchedValue, Null as FetchedNull, Outside as FetchedOutside, Wrong as FetchedWrong}
 use Rattle.machine_parts.specs.declared.frame.Made.{Made}
 use Rattle.machine_parts.specs.declared.frame.Made.TheVariants.{Object, Spent as SpentMade, Wrong as WrongMade}
 use Rattle.machine_parts.specs.declared.frame.Reply.{Reply}
@@ -79,6 +81,11 @@ IsValueIn Has c f = (p : CoreProgram) (m : Meanings) (k : Ways) (fs : List Frame
 abbrev pub GoesToValue : Program → Context → Contents → Context → Contents → ToValue → Control → Type 0
 GoesToValue program old before new after f c = (m : Meanings) (k : Ways) (outside : Outside) →
     resume (program_view program) m k c new.frames (state new after outside) ≡ valued (f (program_view program) m) (waits (program_view program) m k old.frames) (state old before outside)
+
+-- the same where the program isn't looked at
+abbrev pub GoesToValueIn : Context → Contents → Context → Contents → ToValue → Control → Type 0
+GoesToValueIn old before new after f c = (p : CoreProgram) (m : Meanings) (k : Ways) (outside : Outside) →
+    resume p m k c new.frames (state new after outside) ≡ valued (f p m) (waits p m k old.frames) (state old before outside)
 
 -- the same of what comes to a statement's end
 abbrev pub GoesToEnd : Program → Context → Contents → Context → Contents → ToEnd → Control → Type 0
@@ -204,15 +211,16 @@ abbrev pub operand_of : CoreForm → Option Core
 operand_of (Update place op operand gives_old) = option_of operand
 operand_of _ = None
 
--- the value of the place of a compound assignment, whose object has one
-abbrev pub fetched_of : CoreProgram → CoreForm → Value → Computation Value
-fetched_of program (Update place op operand gives_old) object = fetched program (form_of place) object
-fetched_of program _ object = wrong
+-- the value of the place of a compound assignment, whose object and index have values
+abbrev pub fetched_of : CoreProgram → CoreForm → Value → Value → Computation Value
+fetched_of program (Update place op operand gives_old) object index = fetched program (form_of place) object index
+fetched_of program _ object index = wrong
 
 -- how a run goes on with what the reading of a place came to
 abbrev pub fetched_ways : CoreProgram → Fetched → Computation Value
 fetched_ways program (FetchedValue value) = ret value
 fetched_ways program FetchedNull = raise program null_pointer
+fetched_ways program FetchedOutside = raise program array_index
 fetched_ways program FetchedWrong = wrong
 
 -- a place's reading came to that, in a body with these variables
@@ -220,6 +228,17 @@ abbrev pub Fetches : Program → Contents → Env → (CoreProgram → Computati
 Fetches program heap env f found = (go : Value → Run) (exits : Exits) (units begun : ℕ) (outside : Outside) →
     fetched_ways (program_view program) found go exits (state_of units begun heap outside (own_of env)) ≡
     f (program_view program) go exits (state_of units begun heap outside (own_of env))
+
+-- how a run goes on with what the test of a value for a place among elements came to: none where no program comes
+abbrev pub stored_ways : CoreProgram → Option Bool → Computation Nothing
+stored_ways program None = wrong
+stored_ways program (Some holds) = if holds then ret tt else raise program array_store
+
+-- the test came to that
+abbrev pub Stores : Program → Contents → Ty → Value → Option Bool → Type 0
+Stores program heap element value found = (go : Nothing → Run) (exits : Exits) (units begun : ℕ) (outside : Outside) (own : Own) →
+    stored_ways (program_view program) found go exits (state_of units begun heap outside own) ≡
+    storable (program_view program) element value go exits (state_of units begun heap outside own)
 
 -- the next statement of some groups from a place on, and the place behind it
 abbrev pub NextCase : List CoreGroup → ℕ → ℕ → Option (ℕ × ℕ × Rc Stmt Global) → Type 0
