@@ -2,7 +2,9 @@
 use Rattle.std.proofs.Common.{◌≡◌, ◌<◌, ◌≤◌, ◌+◌, ◌-◌, ℕ, zero, suc, List, [], ◌∷◌, ◌++◌, length, map, take, drop, Some, None, refl, sym, ◌∙◌, ap, subst, true≢false, arith}
 use Rattle.std.specs.Prelude.{slice_get, slice_set, slice_index_or, option_map, IsSome}
 use Rattle.std.proofs.Math.Seq.{take-length, take-set-lt, drop-append_seam}
-use Rattle.std.proofs.lemmas.List.{length-append, length-set, length-drop, length-take-le, map-append, drop-set-lt, drop-set-add, take-set-le, take-append-le, drop-append-le}
+use Rattle.std.proofs.Math.ListN.{drop_of_length-le}
+use Rattle.std.specs.List.{flat_map}
+use Rattle.std.proofs.lemmas.List.{take_all, take-append-drop, take-map, drop-drop, length-map, length-append, length-set, length-drop, length-take-le, map-append, drop-set-lt, drop-set-add, take-set-le, take-append-le, drop-append-le}
 use Rattle.std.proofs.lemmas.Option.{slice_get-map, none-some, same_Some, slice_get_past, slice_get_read}
 use Rattle.je_core.specs.declared.value.Value.{Value}
 use Rattle.je_java.specs.World.{slots_of, with_slots, slot_in, slot_of, with_slot_in, with_slot}
@@ -204,3 +206,44 @@ laid-on from end len (e ∷ es) kind l = (l.0, laid-on (from + e.len) end len es
 pub laid_with : (row vs : List Value) (es : List Entry) (kind : Kind) → AreLaid 0 es (length row) →
     AreLaid 0 (es ++ record { kind = kind; first = length row; len = length vs } ∷ []) (length (row ++ vs))
 laid_with row vs es kind l = subst (AreLaid 0 (es ++ record { kind = kind; first = length row; len = length vs } ∷ [])) (sym (length-append row vs)) (laid-on 0 (length row) (length vs) es kind l)
+
+-- ---- the first objects alone
+
+laid-front : (from end n : ℕ) (es : List Entry) (e : Entry) → AreLaid from es end → slice_get es n ≡ Some e → AreLaid from (take n es) e.first
+laid-front from end n [] e l is = absurd (none-some e is)
+laid-front from end zero (f ∷ es) e l is = sym l.0 ∙ ap (λ (x : Entry). x.first) (same_Some f e is)
+laid-front from end (suc n) (f ∷ es) e l is = (l.0, laid-front (from + f.len) end n es e l.1 is)
+
+pub first_within : (row : List Value) (es : List Entry) (n : ℕ) {e : Entry} → AreLaid 0 es (length row) → n < length es → e ≡ slice_index_or es n e → e.first ≤ length row
+first_within row es n {e} l lt is = let end = (laid-within 0 (length row) n es e l (entry-read es n e lt is)).1 in omega arith
+
+pub kept_laid : (row : List Value) (es : List Entry) (n : ℕ) {e : Entry} → AreLaid 0 es (length row) → n < length es → e ≡ slice_index_or es n e →
+    AreLaid 0 (take n es) (length (take e.first row))
+kept_laid row es n {e} l lt is =
+    subst (AreLaid 0 (take n es)) (sym (length-take-le e.first row (first_within row es n l lt is))) (laid-front 0 (length row) n es e l (entry-read es n e lt is))
+
+pub kept_objects : (row : List Value) (es : List Entry) (n : ℕ) {e : Entry} → AreLaid 0 es (length row) → n < length es → e ≡ slice_index_or es n e →
+    map (object_in (take e.first row)) (take n es) ≡ take n (map (object_in row) es)
+kept_objects row es n {e} l lt is =
+    let front = take e.first row in
+    let long : e.first ≡ length front = sym (length-take-le e.first row (first_within row es n l lt is)) in
+    sym (old-same front (drop e.first row) 0 e.first (take n es) (laid-front 0 (length row) n es e l (entry-read es n e lt is)) (omega arith)) ∙
+    ap (λ r. map (object_in r) (take n es)) (take-append-drop e.first row) ∙ sym (take-map (object_in row) n es)
+
+pub kept_all : (row : List Value) (es : List Entry) (n : ℕ) → length es ≤ n → map (object_in row) es ≡ take n (map (object_in row) es)
+kept_all row es n le = ap (map (object_in row)) (sym (take_all n es le)) ∙ sym (take-map (object_in row) n es)
+
+-- ---- all slots
+
+slots-from : (row : List Value) (from : ℕ) (es : List Entry) → AreLaid from es (length row) → flat_map slots_of (map (object_in row) es) ≡ drop from row
+slots-from row from [] l = sym (drop_of_length-le row (omega arith))
+slots-from row from (e ∷ es) l =
+    let first = l.0 in
+    let own : slots_of (object_in row e) ≡ take e.len (drop from row) = slots-of e.kind (take e.len (drop e.first row)) ∙ ap (λ n. take e.len (drop n row)) first in
+    rw own (rw (slots-from row (from + e.len) es l.1) (rw (sym (drop-drop e.len from row)) (take-append-drop e.len (drop from row))))
+
+pub whole_row : (row : List Value) (es : List Entry) → AreLaid 0 es (length row) → row ≡ flat_map slots_of (map (object_in row) es)
+whole_row row es l = sym (slots-from row 0 es l)
+
+pub as_many : (row : List Value) (es : List Entry) → length es ≡ length (map (object_in row) es)
+as_many row es = sym (length-map es (object_in row))

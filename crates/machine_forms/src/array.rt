@@ -55,6 +55,7 @@ pub fn begin_length(array: &Rc<Expr>, frames: &mut Stack) -> Result<Control, Mem
 }
 
 /// The array of an assignment to an element.
+#[tactic(auto, unfolding(machine_parts::specs::way::Opened::binding))]
 pub fn begin_set_array(
     array: &Rc<Expr>,
     index: &Rc<Expr>,
@@ -75,6 +76,7 @@ pub fn begin_set_array(
 }
 
 /// The index of an assignment to an element.
+#[tactic(auto, unfolding(machine_parts::specs::way::Opened::binding))]
 pub fn begin_set_index(
     array: Value,
     index: Rc<Expr>,

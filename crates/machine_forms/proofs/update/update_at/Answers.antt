@@ -41,5 +41,5 @@ unfolding wrong
 returns-in-Wrong-clause-goes c = λ m k outside.
     let p = program_view c.args.program.now in
     let before = c.args.context.now in
-    fetched_first p m c.args.node.value.ty (form_view c.args.node.value.form) c.args.object Wrong (waits p m k before.frames) (state before c.args.heap.now outside)
+    fetched_first p m c.args.node.value.ty (form_view c.args.node.value.form) c.args.object c.args.index Wrong (waits p m k before.frames) (state before c.args.heap.now outside)
     (λ go exits. c.in-Wrong.ensures go exits before.units before.begun outside ∙ ap (λ (n : Expr). fetched_of p (form_view n.form) c.args.object c.args.index go exits (state before c.args.heap.now outside)) c.deref.ensures)

@@ -1,0 +1,86 @@
+// What writes have replaced since a turn began.
+
+ghost use Rattle.std.specs.Prelude.{◌≡◌, ◌∷◌, ◌++◌, OnOk, OnErr, Some, length};
+ghost use Rattle.je_heap.specs.Turns.{slot_noted, turn_from, variable_noted};
+ghost use Rattle.je_heap.specs.way.Journals.{LeavesLast};
+
+use je_core::{Memory, ObjId, Value};
+use std::alloc::Global;
+use std::marker::Model;
+
+/// What a write replaced.
+#[derive(Clone, Copy, PartialEq, Eq, Debug)]
+pub enum Saved {
+    /// The old value of a slot of an object.
+    Slot(ObjId, u64, Value),
+    /// The old value of a class variable.
+    Variable(u32, Value),
+}
+
+/// A turn that has begun and not ended.
+#[derive(Drop)]
+pub struct Turn {
+    made_before: usize,
+    journal: Vec<Saved>,
+}
+
+impl Model for Turn {
+    ghost use Rattle.je_heap.specs.Turns.{Turn as TheTurn};
+
+    ghost Value = { TheTurn };
+
+    ghost view = { λ t. record { made_before = t.made_before; journal = t.journal.items } };
+}
+
+impl Turn {
+    /// A turn that begins where there are so many objects.
+    pub fn new(alloc: Global, made_before: usize) -> Turn
+        ensures { result ≡ turn_from made_before }
+    {
+        Turn {
+            made_before,
+            journal: Vec::new(alloc),
+        }
+    }
+
+    /// How many objects there were when it began.
+    pub fn made_before(&self) -> usize
+        ensures { result ≡ self.now.made_before }
+    {
+        self.made_before
+    }
+
+    /// How many writes it has noted.
+    pub fn saved(&self) -> u64
+        ensures { result ≡ length self.now.journal }
+    {
+        self.journal.len() as u64
+    }
+
+    /// Notes what a write to a slot replaces, where the object was there before the turn.
+    pub fn note_slot(&mut self, id: ObjId, at: u64, old: Value) -> Result<(), Memory>
+        ensures ok { OnOk result (self.new ≡ slot_noted id at (Some old) self.old) }
+        ensures err { OnErr result (self.new ≡ self.old) }
+    {
+        if id.0 < self.made_before as u64 {
+            self.journal.push(Saved::Slot(id, at, old))?;
+        }
+        Ok(())
+    }
+
+    /// Notes what a write to a class variable replaces.
+    pub fn note_variable(&mut self, at: u32, old: Value) -> Result<(), Memory>
+        ensures ok { OnOk result (self.new ≡ variable_noted at (Some old) self.old) }
+        ensures err { OnErr result (self.new ≡ self.old) }
+    {
+        self.journal.push(Saved::Variable(at, old))?;
+        Ok(())
+    }
+
+    /// Takes what was noted last, where anything is left.
+    pub fn pop(&mut self) -> Option<Saved>
+        ensures { LeavesLast self.old result self.new }
+    {
+        self.journal.pop()
+    }
+}
