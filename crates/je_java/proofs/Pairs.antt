@@ -12,7 +12,7 @@ use Rattle.je_core.specs.declared.value.Value.TheVariants as value
 use Rattle.je_java.specs.declared.call.Receiver.{Receiver}
 use Rattle.je_java.specs.declared.call.Receiver.TheVariants as receiver
 use Rattle.je_java.specs.World.{class_of, type_of, extent_of, slot_of, with_slot}
-use Rattle.je_java.specs.Steps.{State, Own, Public, Answer, Spent, Wrong, Run, Exits, Computation, throw, leave, jump}
+use Rattle.je_java.specs.Steps.{State, Own, Public, Answer, Spent, Wrong, Run, Exits, Computation}
 
 -- two runs side by side: when which objects are paired, and which worlds, public parts and answers go together;
 -- time is a number, so far how many objects were made

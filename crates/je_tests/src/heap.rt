@@ -42,6 +42,7 @@ fn a_write_changes_one_slot_of_one_object(rt: HostRuntime) -> Result<(), Memory>
     };
     assert_eq!(rt; heap.shape(first), Some(shape));
     assert_eq!(rt; heap.shape(ObjId(2)), None);
+    assert_eq!(rt; heap.statics(), 2);
     assert_eq!(rt; heap.get_static(0), Some(Value::Null));
     if heap.get_static(1).is_some() {
         heap.set_static(1, Value::Int(4))?;

@@ -2,9 +2,11 @@
 
 ghost use Rattle.std.specs.Prelude.{◌≡◌, ◌≤◌, ◌<◌, ◌+◌, ◌*◌, ℕ, IfOk, MatchOption, length, drop};
 ghost use Rattle.std.specs.Option.{ForSome};
+ghost use Rattle.je_core.specs.Core.{Index as IndexForm};
 ghost use Rattle.je_core.specs.View.{view};
 ghost use Rattle.je_java.specs.Steps.{bind, seq, charge};
 ghost use Rattle.je_java.specs.Arrays.{length_of as the_length_of, read_element as the_read_element, write_element as the_write_element, elements_of, element_of, nested as the_nested, make_arrays as the_make_arrays, array_from as the_array_from};
+ghost use Rattle.je_java.specs.Meaning.{eval_form, set_element};
 ghost use Rattle.machine_parts.specs.Ways.{height, gives};
 ghost use Rattle.machine_parts.specs.way.Clauses.{BeginsValue, GoesToValue, GoesToValueIn};
 ghost use Rattle.machine_forms.specs.way.Making.{IsLength, Counted, Nests};
@@ -19,13 +21,14 @@ use std::rc::Rc;
 
 /// The array of an element.
 pub fn begin_element(
+    ty: Ty,
     array: &Rc<Expr>,
     index: &Rc<Expr>,
     frames: &mut Stack,
 ) -> Result<Control, Memory>
     ensures goes { IfOk result (BeginsValue frames.old frames.new
-        (λ p m. bind (m.eval (view array.now.value)) (λ a.
-        bind (m.eval (view index.now.value)) (λ i. the_read_element p a i)))) }
+        (λ p m. eval_form p m ty
+        (IndexForm (view array.now.value) (view index.now.value)))) }
     ensures short { IfOk result (λ c. length frames.new + gives c ≤ length frames.old + 1) }
 {
     frames.push(Frame::ReadArray {
@@ -63,9 +66,8 @@ pub fn begin_set_array(
     frames: &mut Stack,
 ) -> Result<Control, Memory>
     ensures goes { IfOk result (BeginsValue frames.old frames.new
-        (λ p m. bind (m.eval (view array.now.value)) (λ a.
-        bind (m.eval (view index.now.value)) (λ i.
-        bind (m.eval (view value.now.value)) (λ v. the_write_element p a i v))))) }
+        (λ p m. set_element p m (view array.now.value) (view index.now.value)
+        (view value.now.value))) }
     ensures short { IfOk result (λ c. length frames.new + gives c ≤ length frames.old + 1) }
 {
     frames.push(Frame::SetArray {

@@ -1,19 +1,22 @@
 // Calls: a receiver, arguments, and then a method's body.
 
-ghost use Rattle.std.specs.Prelude.{◌≡◌, ◌≤◌, ◌<◌, ◌+◌, ◌^◌, [], IfOk, length, drop, MatchOption, IsSome};
+ghost use Rattle.std.specs.Prelude.{◌≡◌, ◌≤◌, ◌<◌, ◌+◌, ◌^◌, [], IfOk, length, map, drop, MatchOption, IsSome};
 ghost use Rattle.machine_parts.specs.way.Clauses.{BeginsValue, GoesToValue, GoesToValueOf, GoesAhead, NextExpr};
-ghost use Rattle.je_core.specs.View.{view, form_view, views, stmt_view_if, method_view};
+ghost use Rattle.je_core.specs.View.{view, form_view, views, capture_view, stmt_view_if, method_view};
 ghost use Rattle.je_java.specs.Steps.{bind};
-ghost use Rattle.je_java.specs.Meaning.{run_method, run_target, run_virtual, run_instance, run_exact, run_new, apply as the_apply, args_of, receiver_of, with_values, adding, call_from as the_call_from, start_call as the_start_call, begin_call as the_begin_call};
+ghost use Rattle.je_java.specs.Meaning.{run_method, run_target, run_virtual, run_instance, run_exact, run_new, construct as the_construct, hand_over as the_hand_over, apply as the_apply, args_of, receiver_of, with_values, adding, call_from as the_call_from, start_call as the_start_call, begin_call as the_begin_call};
 ghost use Rattle.machine_parts.specs.Ways.{built_or, height, gives};
 
 use crate::array::{array_from, make_arrays};
-use je_core::{ClassId, Expr, Form, Memory, Method, Program, Slots, Stmt, Ty, Value};
+use crate::capture::hand_over;
+use je_core::{
+    Capture, ClassId, Expr, Form, Memory, Method, ObjId, Program, Slots, Stmt, Ty, Value,
+};
 use je_heap::Heap;
 use je_java::Target;
 use machine_parts::class::{dispatched, locals_for, method};
-use machine_parts::frame::{Context, Control, Env, Frame, Made};
-use machine_parts::make::{instance, raise_null_pointer};
+use machine_parts::frame::{Context, Control, Env, Fetched, Frame, Made};
+use machine_parts::make::{instance, raise_array_index, raise_null_pointer};
 use machine_parts::shape::class_of;
 use machine_parts::stack::Stack;
 use std::mem;
@@ -147,27 +150,72 @@ fn call_exact(
     }
 }
 
+// The constructor of an object that was made for it.
+fn construct(
+    context: &mut Context,
+    program: &Program,
+    class: ClassId,
+    at: u32,
+    values: Slots,
+    object: ObjId,
+) -> Result<Control, Memory>
+    ensures goes { IfOk result (GoesToValueOf program.now context.old context.new
+        (λ p m. the_construct p m class at values object)) }
+    ensures short { IfOk result (λ c. height context.new + gives c ≤ height context.old + 1) }
+    ensures begun { context.new.begun ≡ context.old.begun }
+{
+    let this = Value::Ref(object);
+    match method(program, class, at) {
+        Some(constructor) => enter(context, constructor, this, values, Some(this)),
+        None => Ok(Control::Wrong),
+    }
+}
+
+// The hidden fields of a new object, and then its constructor.
+fn begin_object(
+    context: &mut Context,
+    heap: &mut Heap,
+    program: &Program,
+    class: ClassId,
+    at: u32,
+    captures: &[Capture],
+    values: Slots,
+    object: ObjId,
+) -> Result<Control, Memory>
+    ensures goes { IfOk result (GoesToValue program.now context.old heap.old context.new heap.new
+        (λ p m. the_hand_over p (map capture_view captures.now) object
+        (the_construct p m class at values object))) }
+    ensures short { IfOk result (λ c. height context.new + gives c ≤ height context.old + 1) }
+    ensures begun { context.new.begun ≡ context.old.begun }
+{
+    match hand_over(heap, program, &context.env, captures, object)? {
+        Fetched::Value(_) => construct(context, program, class, at, values, object),
+        Fetched::Null => raise_null_pointer(context, heap, program),
+        Fetched::Outside => raise_array_index(context, heap, program),
+        Fetched::Wrong => Ok(Control::Wrong),
+    }
+}
+
 fn call_new(
     context: &mut Context,
     heap: &mut Heap,
     program: &Program,
     class: ClassId,
     at: u32,
+    captures: &[Capture],
     values: Slots,
 ) -> Result<Control, Memory>
     ensures goes { IfOk result (GoesToValue program.now context.old heap.old context.new heap.new
-        (λ p m. run_new p m class at values)) }
+        (λ p m. run_new p m class at (map capture_view captures.now) values)) }
     ensures short { IfOk result (λ c. height context.new + gives c ≤ height context.old + 1) }
     ensures begun { context.new.begun ≡ context.old.begun }
 {
-    let object = match instance(context, heap, program, class)? {
-        Made::Object(object) => Value::Ref(object),
-        Made::Spent => return Ok(Control::Spent),
-        Made::Wrong => return Ok(Control::Wrong),
-    };
-    match method(program, class, at) {
-        Some(constructor) => enter(context, constructor, object, values, Some(object)),
-        None => Ok(Control::Wrong),
+    match instance(context, heap, program, class)? {
+        Made::Object(object) => begin_object(
+            context, heap, program, class, at, captures, values, object,
+        ),
+        Made::Spent => Ok(Control::Spent),
+        Made::Wrong => Ok(Control::Wrong),
     }
 }
 
@@ -192,9 +240,12 @@ fn apply(
         Form::CallExact { class, method, .. } => {
             call_exact(context, heap, program, *class, *method, this, values)
         }
-        Form::New { class, method, .. } => call_new(
-            context, heap, program, *class, *method, values,
-        ),
+        Form::New {
+            class,
+            method,
+            captures,
+            ..
+        } => call_new(context, heap, program, *class, *method, captures, values),
         Form::NewArray { .. } => make_arrays(context, heap, program, ty, values),
         Form::ArrayOf { .. } => array_from(context, heap, ty, values),
         _ => Ok(Control::Wrong),

@@ -11,11 +11,13 @@ ghost use Rattle.machine_parts.specs.Ways.{height, gives};
 use crate::array::{begin_element, begin_length, begin_set_array};
 use crate::call::begin_call;
 use crate::update::begin_update;
+use crate::variable::{begin_before, begin_set_before, begin_set_static};
 use je_core::{BinOp, ClassId, Expr, Form, Memory, Program, Slots, Ty, UnOp, Value};
 use je_heap::Heap;
 use machine_parts::frame::{Context, Control, Frame};
 use machine_parts::stack::Stack;
 use machine_parts::value::constant;
+use machine_parts::variable::{read_static, read_text};
 use std::rc::Rc;
 
 fn begin_local(local: u32, locals: &Slots) -> Control
@@ -202,6 +204,16 @@ fn begin_assign(form: &Form, value: &Rc<Expr>, frames: &mut Stack) -> Result<Con
             class,
             field,
         } => begin_set_field(object, *class, *field, value, frames),
+        Form::Static {
+            object: Some(object),
+            class,
+            field,
+        } => begin_set_before(object, *class, *field, value, frames),
+        Form::Static {
+            object: None,
+            class,
+            field,
+        } => begin_set_static(*class, *field, value.clone()?, frames),
         Form::Index { array, index } => begin_set_array(array, index, value, frames),
         _ => Ok(begin_wrong()),
     }
@@ -231,6 +243,7 @@ pub fn begin_expr(
 {
     match &node.form {
         Form::Const { value, .. } => Ok(constant(*value)),
+        Form::Text { units, .. } => Ok(read_text(heap, program, units)),
         Form::Local { local } => Ok(begin_local(*local, &context.env.locals)),
         Form::This => Ok(begin_this(context.env.this)),
         Form::Field {
@@ -238,7 +251,19 @@ pub fn begin_expr(
             class,
             field,
         } => begin_field(*class, *field, object, &mut context.frames),
-        Form::Index { array, index } => begin_element(array, index, &mut context.frames),
+        Form::Static {
+            object: Some(object),
+            class,
+            field,
+        } => begin_before(object, *class, *field, &mut context.frames),
+        Form::Static {
+            object: None,
+            class,
+            field,
+        } => Ok(read_static(heap, program, *class, *field)),
+        Form::Index { array, index } => {
+            begin_element(node.ty, array, index, &mut context.frames)
+        }
         Form::Length { array } => begin_length(array, &mut context.frames),
         Form::Assign { place, value } => begin_place(place, value, &mut context.frames),
         Form::Update { .. } => begin_update(context, heap, program, node),
@@ -258,13 +283,10 @@ pub fn begin_expr(
             right,
             &mut context.frames,
         ),
-        Form::CallVirtual { .. } | Form::CallExact { .. } => {
-            begin_call(context, heap, program, node)
-        }
-        Form::New { captures, .. } if captures.is_empty() => {
+        Form::CallVirtual { .. } | Form::CallExact { .. } | Form::New { .. } => {
             begin_call(context, heap, program, node)
         }
         Form::NewArray { .. } | Form::ArrayOf { .. } => begin_call(context, heap, program, node),
-        _ => Ok(begin_wrong()),
+        Form::Concat { .. } => Ok(begin_wrong()),
     }
 }

@@ -5,5 +5,7 @@
 
 pub mod array;
 pub mod call;
+pub mod capture;
 pub mod expr;
 pub mod update;
+pub mod variable;

@@ -7,12 +7,13 @@ ghost use Rattle.je_java.specs.Compound.{is_shift as the_is_shift, promoted as t
 ghost use Rattle.je_core.specs.declared.program.Program.{Program as TheProgram};
 ghost use Rattle.je_heap.specs.Contents.{Contents};
 ghost use Rattle.machine_parts.specs.declared.frame.Env.{Env as TheEnv};
-ghost use Rattle.je_java.specs.Steps.{bind, yields, wrong, get_local, put_local, read_field, write_field};
+ghost use Rattle.je_java.specs.Steps.{bind, yields, wrong, get_local, put_local, read_field, write_field, read_static};
 ghost use Rattle.je_java.specs.Arrays.{read_element};
 ghost use Rattle.je_java.specs.Meaning.{object_in as the_object_in, index_in as the_index_in, object_of as the_object_of, index_of as the_index_of, fetched, stored, given as the_given, on_operand, update_by as the_update_by, update_at as the_update_at, update_object as the_update_object, begin_update as the_begin_update};
 ghost use Rattle.machine_parts.specs.Ways.{valued, height, gives};
 ghost use Rattle.machine_parts.specs.way.Clauses.{BeginsValue, GoesToValue, GoesAhead, Fetches, operand_of, fetched_of};
 
+use crate::variable::store_variable;
 use je_arith::{Outcome, try_binary, try_convert};
 use je_core::{Base, BinOp, ClassId, Expr, Form, Memory, Program, Ty, Value};
 use je_heap::Heap;
@@ -22,6 +23,7 @@ use machine_parts::frame::{Context, Control, Env, Fetched, Frame};
 use machine_parts::make::{raise_arithmetic, raise_array_index, raise_null_pointer};
 use machine_parts::shape::extent_of;
 use machine_parts::stack::Stack;
+use machine_parts::variable::{static_place, variable};
 use std::rc::Rc;
 
 fn is_shift(op: BinOp) -> bool
@@ -112,7 +114,8 @@ fn update_outcome(ty: Ty, op: BinOp, a: Value, b: Value) -> Outcome
     in_place(ty, joined(op, promoted(a), promoted(b)))
 }
 
-fn fetch_local(env: &Env, local: u32) -> Fetched
+/// The value of a local.
+pub fn fetch_local(env: &Env, local: u32) -> Fetched
     ensures { (program : TheProgram) (heap : Contents) →
         Fetches program heap env.now (λ p. get_local local) result }
 {
@@ -122,7 +125,14 @@ fn fetch_local(env: &Env, local: u32) -> Fetched
     }
 }
 
-fn fetch_field(heap: &Heap, program: &Program, class: ClassId, field: u32, object: Value) -> Fetched
+/// The value of a field of an object.
+pub fn fetch_field(
+    heap: &Heap,
+    program: &Program,
+    class: ClassId,
+    field: u32,
+    object: Value,
+) -> Fetched
     ensures { (env : TheEnv) →
         Fetches program.now heap.now env (λ p. read_field p class field object) result }
 {
@@ -138,6 +148,19 @@ fn fetch_field(heap: &Heap, program: &Program, class: ClassId, field: u32, objec
         }
         Value::Null => Fetched::Null,
         _ => Fetched::Wrong,
+    }
+}
+
+fn fetch_static(heap: &Heap, program: &Program, class: ClassId, field: u32) -> Fetched
+    ensures { (env : TheEnv) →
+        Fetches program.now heap.now env (λ p. read_static p class field) result }
+{
+    let Some(place) = static_place(program, class, field) else {
+        return Fetched::Wrong;
+    };
+    match variable(heap, place) {
+        Some(value) => Fetched::Value(value),
+        None => Fetched::Wrong,
     }
 }
 
@@ -182,6 +205,7 @@ fn fetch(
     match place {
         Form::Local { local } => fetch_local(env, *local),
         Form::Field { class, field, .. } => fetch_field(heap, program, *class, *field, object),
+        Form::Static { class, field, .. } => fetch_static(heap, program, *class, *field),
         Form::Index { .. } => fetch_element(heap, object, index),
         _ => fetch_wrong(),
     }
@@ -297,6 +321,9 @@ fn store(
         Form::Field { class, field, .. } => store_field(
             context, heap, program, *class, *field, object, value, given,
         ),
+        Form::Static { class, field, .. } => {
+            store_variable(context, heap, program, *class, *field, value, given)
+        }
         Form::Index { .. } => { store_element(context, heap, program, object, index, value, given) }
         _ => Ok(Control::Wrong),
     }
@@ -469,13 +496,17 @@ pub fn update_at(
     }
 }
 
-// The object, or the array, that a place evaluates first.
+// The object, or the array, that a place evaluates first; that before a static member is dropped.
 fn object_in(place: &Form) -> Option<&Rc<Expr>>
     ensures { MatchOption result (the_object_in (form_view place.now) ≡ None)
         (λ e. the_object_in (form_view place.now) ≡ Some (view e.now.value)) }
 {
     match place {
         Form::Field { object, .. } => Some(object),
+        Form::Static { object, .. } => match object {
+            Some(object) => Some(object),
+            None => None,
+        },
         Form::Index { array, .. } => Some(array),
         _ => None,
     }

@@ -11,6 +11,7 @@ use je_heap::Heap;
 use machine_forms::array::{begin_index, begin_set_element, begin_set_index};
 use machine_forms::call::{call_from, start_call};
 use machine_forms::update::{update_at, update_by, update_object};
+use machine_forms::variable::{begin_set_static, write_variable};
 use machine_parts::array::{length_of, read_element, write_element};
 use machine_parts::field::{read_field, write_field, write_local};
 use machine_parts::frame::{Context, Control, End, Frame};
@@ -18,6 +19,7 @@ use machine_parts::kind::{cast, is_instance};
 use machine_parts::make::throw_value;
 use machine_parts::stack::Stack;
 use machine_parts::value::{and, binary, choose, convert, or, unary};
+use machine_parts::variable::read_static;
 use machine_statements::catch::{catch, finish, go_on};
 use machine_statements::stmt::{begin_leave, begin_nothing, parts_from, test};
 use machine_statements::switch::{cases_from, switch};
@@ -88,6 +90,15 @@ pub fn give(
             field,
             object,
         } => write_field(context, heap, program, class, field, object, value),
+        Frame::ReadStatic { class, field } => Ok(read_static(heap, program, class, field)),
+        Frame::SetBefore {
+            class,
+            field,
+            value: next,
+        } => begin_set_static(class, field, next, &mut context.frames),
+        Frame::SetStatic { class, field } => {
+            write_variable(context, heap, program, class, field, value)
+        }
         Frame::ReadArray { index } => begin_index(value, index, &mut context.frames),
         Frame::ReadElement { array } => read_element(context, heap, program, array, value),
         Frame::Length => length_of(context, heap, program, value),

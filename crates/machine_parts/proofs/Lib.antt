@@ -4,3 +4,4 @@ pub mod Fields
 pub mod Subclasses
 pub mod Results
 pub mod Shapes
+pub mod Variables

@@ -8,11 +8,11 @@ use Rattle.je_core.specs.Core.{CoreStmt, CoreStmtForm, Block, Switch, Try, CoreC
 use Rattle.je_core.specs.View.{view, form_view, stmt_view, stmt_form_view}
 use Rattle.je_heap.specs.Contents.{Contents}
 use Rattle.je_core.specs.declared.value.Value.TheVariants.{Bool as Truth}
-use Rattle.je_java.specs.Steps.{State, Outside, Own, Done as DoneRun, Thrown, Spent, Wrong, Run, Exits, Computation, Nothing, ret, ◌>>=◌, leave, takes, is_label, landing, breaking, after_all, throw_value, out_of, with_own, put_local, binary, unary, convert, is_instance, cast, branch, read_field, write_field}
+use Rattle.je_java.specs.Steps.{State, Outside, Own, Done as DoneRun, Thrown, Spent, Wrong, Run, Exits, Computation, Nothing, ret, ◌>>=◌, leave, takes, is_label, landing, breaking, after_all, throw_value, out_of, with_own, put_local, binary, unary, convert, is_instance, cast, branch, read_field, write_field, read_static, write_static}
 use Rattle.je_java.specs.Arrays.{length_of, read_element, write_element}
-use Rattle.je_java.specs.Meaning.{Meanings, block, tested, further, labels_of, caught, parts_in, fallen_through, switched, update_object, update_at, update_by, call_from, start_call, call_by, ends, nobody}
+use Rattle.je_java.specs.Meaning.{Meanings, block, tested, further, labels_of, caught, parts_in, fallen_through, switched, update_object, update_at, update_by, set_variable, call_from, start_call, call_by, ends, nobody}
 use Rattle.machine_parts.specs.declared.frame.Frame.{Frame}
-use Rattle.machine_parts.specs.declared.frame.Frame.TheVariants.{ReadField, SetLocal, SetObject, SetField, ReadArray, ReadElement, Length as LengthFrame, SetArray, SetIndex, SetElement, UpdateObject, UpdateIndex, Update as UpdateFrame, Operand, Converted, Cast as CastFrame, InstanceOf as InstanceFrame, Left, Right, And as AndFrame, Or as OrFrame, Choose as ChooseFrame, Test, Body, Steps, Labelled as LabelledFrame, Switch as SwitchFrame, Cases, Try as TryFrame, Finally, Finishing, Thrown as ThrownFrame, Receiver, Args, Called, Parts, Ignored, Returned}
+use Rattle.machine_parts.specs.declared.frame.Frame.TheVariants.{ReadField, SetLocal, SetObject, SetField, ReadStatic, SetBefore, SetStatic, ReadArray, ReadElement, Length as LengthFrame, SetArray, SetIndex, SetElement, UpdateObject, UpdateIndex, Update as UpdateFrame, Operand, Converted, Cast as CastFrame, InstanceOf as InstanceFrame, Left, Right, And as AndFrame, Or as OrFrame, Choose as ChooseFrame, Test, Body, Steps, Labelled as LabelledFrame, Switch as SwitchFrame, Cases, Try as TryFrame, Finally, Finishing, Thrown as ThrownFrame, Receiver, Args, Called, Parts, Ignored, Returned}
 use Rattle.machine_parts.specs.declared.frame.Env.{Env}
 use Rattle.machine_parts.specs.declared.frame.End.{End}
 use Rattle.machine_parts.specs.declared.frame.End.TheVariants.{Next as NextEnd, Leave as LeaveEnd, Throw as ThrowEnd, Jump as JumpEnd}
@@ -124,6 +124,9 @@ frame_ways program m (Left op right) k = giving (λ a. do
   b ← m.eval (view right.value)
   binary program op a b) k
 frame_ways program m (Right op left) k = giving (λ b. binary program op left b) k
+frame_ways program m (ReadStatic class field) k = giving (λ dropped. read_static program class field) k
+frame_ways program m (SetBefore class field value) k = giving (λ dropped. set_variable program m class field (view value.value)) k
+frame_ways program m (SetStatic class field) k = giving (λ v. write_static program class field v) k
 frame_ways program m (ReadArray index) k = giving (λ a. do
   i ← m.eval (view index.value)
   read_element program a i) k

@@ -119,6 +119,22 @@ pub enum Frame {
         field: u32,
         object: Value,
     },
+    /// What stands before a class variable is being evaluated.
+    ReadStatic {
+        class: ClassId,
+        field: u32,
+    },
+    /// What stands before a class variable that is assigned to is being evaluated.
+    SetBefore {
+        class: ClassId,
+        field: u32,
+        value: Rc<Expr>,
+    },
+    /// The value of an assignment to a class variable is being evaluated.
+    SetStatic {
+        class: ClassId,
+        field: u32,
+    },
     /// The array of an element is being evaluated.
     ReadArray {
         index: Rc<Expr>,
@@ -144,7 +160,8 @@ pub enum Frame {
         array: Value,
         index: Value,
     },
-    /// The object, or the array, of a place that a compound assignment changes is being evaluated.
+    /// The object, or the array, of a place that a compound assignment changes, or what stands before a class variable,
+    /// is being evaluated.
     UpdateObject {
         node: Rc<Expr>,
     },

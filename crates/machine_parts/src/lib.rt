@@ -14,3 +14,4 @@ pub mod reply;
 pub mod shape;
 pub mod stack;
 pub mod value;
+pub mod variable;

@@ -98,7 +98,7 @@ module _ {members : Members} {program : CoreProgram} (p : ProgramTyped members p
       rw h (safe-need _ refl (safe-need _ found.1 (keeps-method g found.0 (Ref o) given found.2 q λ z. an_object (omega arith)))))
 
   keeps-run_new : {c : Context} {t : ℕ} →
-      Keeps (length members.fields) t c c (Holds object) (run_new program m one_class (length members.methods) [])
+      Keeps (length members.fields) t c c (Holds object) (run_new program m one_class (length members.methods) [] [])
   keeps-run_new =
       let found = p.constructor in
       safe-bind (keeps-make program p.fresh p.are_ints) λ u l o h.

@@ -82,6 +82,11 @@ abbrev pub GoesToValue : Program → Context → Contents → Context → Conten
 GoesToValue program old before new after f c = (m : Meanings) (k : Ways) (outside : Outside) →
     resume (program_view program) m k c new.frames (state new after outside) ≡ valued (f (program_view program) m) (waits (program_view program) m k old.frames) (state old before outside)
 
+-- the same of a program in memory before any frames, in a body with any variables; the heap may have changed
+abbrev pub IsValueOver : Program → Contents → Contents → ToValue → Control → Type 0
+IsValueOver program before after f c = (m : Meanings) (k : Ways) (fs : List Frame) (units begun : ℕ) (outside : Outside) (own : Own) →
+    resume (program_view program) m k c fs (state_of units begun after outside own) ≡ valued (f (program_view program) m) (waits (program_view program) m k fs) (state_of units begun before outside own)
+
 -- the same where the program isn't looked at
 abbrev pub GoesToValueIn : Context → Contents → Context → Contents → ToValue → Control → Type 0
 GoesToValueIn old before new after f c = (p : CoreProgram) (m : Meanings) (k : Ways) (outside : Outside) →
