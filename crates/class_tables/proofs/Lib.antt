@@ -1,0 +1,4 @@
+pub mod Orders
+pub mod Totals
+pub mod StaticPlaces
+pub mod Slots

@@ -1,0 +1,4 @@
+pub mod Few
+pub mod Statics
+pub mod FieldTables
+pub mod way
