@@ -13,5 +13,5 @@ pub use headers::Headers;
 pub use look::{Look, Part, Place};
 pub use meaning::{Meaning, is_accessible};
 pub use member::add_all;
-pub use reading::Reading;
+pub use reading::{Reading, are_accessible};
 pub use settling::settle;

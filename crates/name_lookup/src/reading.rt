@@ -28,8 +28,8 @@ pub enum Reading {
     Supers(Vec<ClassId>),
 }
 
-// Whether each of these may be named in a class.
-fn are_accessible(sites: &Sites, class: ClassId, named: &[ClassId]) -> bool
+/// Whether each of these may be named in a class (JLS 6.6.1).
+pub fn are_accessible(sites: &Sites, class: ClassId, named: &[ClassId]) -> bool
     ensures { result ≡ list_all (scope.is_accessible (source_of sites.now) class.0) (numbers named.now) }
 {
     for other in named {

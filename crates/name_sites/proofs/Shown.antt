@@ -40,6 +40,7 @@ shows cs n c earlier e =
       round = round_same c.is_local n s ∙ ap (λ (x : Site). x.spot.round) (sym is);
       locals = locals_same c.is_local n s ∙ ap (λ (x : Site). x.spot.locals) (sym is);
       within = λ d h. omega (arith, among.within d h, slice_get_within cs n c e, count_of_sites cs);
+      earlier = among.within;
       nearest = among.nearest;
     }
 
@@ -58,5 +59,6 @@ shows_past ss n h =
       round = ap (λ (x : Site). x.spot.round) (sym is);
       locals = ap (λ (x : Site). x.spot.locals) (sym is);
       within = λ d e. absurd (cc e);
+      earlier = λ d e. absurd (cc e);
       nearest = λ d e. absurd (cc e);
     }

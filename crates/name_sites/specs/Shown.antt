@@ -22,6 +22,7 @@ pub record Shows (sites : List Site) (n : ℕ) (c : ClassSite) : Type 0 where
   pub round : round_from sites c.spot.within ≡ (site_at sites n).spot.round
   pub locals : own_first c.is_local n (locals_from sites c.spot.nearest) ≡ (site_at sites n).spot.locals
   pub within : ForSome c.spot.within (λ d. d < length sites)
+  pub earlier : ForSome c.spot.within (λ d. d < n)
   pub nearest : ForSome c.spot.nearest (λ d. d < n)
 
 -- one with nothing in it

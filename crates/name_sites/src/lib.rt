@@ -15,4 +15,5 @@ mod library;
 mod sites;
 
 pub use collecting::collect;
+pub use header::is_local;
 pub use sites::{Outside, Sites};

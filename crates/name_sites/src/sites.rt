@@ -14,8 +14,8 @@ use crate::by_name::ByName;
 use crate::header::{
     has_this_name, head, is_local, modifiers_of, name_of, parameter_place, parameters_of,
 };
-use crate::library::full_name;
-use je_ast::{Identifier, TyName, Unit};
+use crate::library::{full_name, text_of};
+use je_ast::{Identifier, TyName, TypeParam, Unit};
 use je_base::{Memory, NameId, Names};
 use je_core::{ClassId, Sort};
 use name_walk::{ClassSite, Context, Spot, Written, has_private};
@@ -50,11 +50,12 @@ pub struct Outside {
 
 impl<'a> Sites<'a> {
     ghost use Rattle.std.specs.Prelude.{◌≡◌, ◌+◌, ◌<◌, ◌^◌, ℕ, IfOk, OnSome, Option, length, map, option_map, slice_get};
-    ghost use Rattle.je_ast.specs.Types.{type_view};
+    ghost use Rattle.std.specs.Option.{ForSome};
+    ghost use Rattle.je_ast.specs.Types.{parameter_view, type_view};
     ghost use Rattle.je_scopes.specs.Headers.{site_at, name_in, parameters_in, is_private, top_of, within};
     ghost use Rattle.je_scopes.specs.Looks.{found};
     ghost use Rattle.je_scopes.specs.Scope.{at_top, declared, first_named, place_of_parameter};
-    ghost use Rattle.je_scopes.specs.Source.{implicit_class, library_class};
+    ghost use Rattle.je_scopes.specs.Source.{implicit_class, library_class, text_in};
     ghost use Rattle.je_scopes.specs.Settled.{heads_of};
     ghost use Rattle.name_walk.specs.View.{context_view, round_from, written_view};
     ghost use Rattle.name_sites.specs.Shown.{Shows};
@@ -143,6 +144,22 @@ impl<'a> Sites<'a> {
         parameter_place(parameters_of(self.class(class).written), name)
     }
 
+    /// The type parameters of a class, in order (JLS 8.1.2, 9.1.2); those of a class of the library aren't among them.
+    pub fn parameters(&self, class: ClassId) -> &'a [TypeParam]
+        ensures { map parameter_view result.now ≡
+            parameters_in (site_at (source_of self.now).sites class.0).written }
+    {
+        parameters_of(self.class(class).written)
+    }
+
+    /// The text of a name; the empty one for a number that is no name of the program.
+    #[tactic(auto, unfolding(crate::specs::View::source_of))]
+    pub fn text(&self, name: NameId) -> &'a str
+        ensures { result.now ≡ text_in (source_of self.now).texts name }
+    {
+        text_of(self.names, name)
+    }
+
     /// The nearest local class of a name that is in scope where a class stands, itself among them (JLS 6.3, 14.3).
     #[tactic(auto, using(crate::proofs::Locals::named_here, crate::proofs::Locals::named_further))]
     pub fn local_named(&self, class: ClassId, name: NameId) -> Option<ClassId>
@@ -166,6 +183,7 @@ impl<'a> Sites<'a> {
             round_from (source_of self.now).sites (number_in result.within) }
         ensures within { number_in result.within ≡ within (site_at (source_of self.now).sites class.0) }
         ensures context { context_view result.context ≡ (site_at (source_of self.now).sites class.0).spot.context }
+        ensures earlier { ForSome (number_in result.within) (λ d. d < class.0) }
     {
         let site = self.class(class);
         Outside {
