@@ -42,71 +42,11 @@ fn a_write_changes_one_slot_of_one_object(rt: HostRuntime) -> Result<(), Memory>
     };
     assert_eq!(rt; heap.shape(first), Some(shape));
     assert_eq!(rt; heap.shape(ObjId(2)), None);
-    assert_eq!(rt; heap.statics(), 2);
     assert_eq!(rt; heap.get_static(0), Some(Value::Null));
     if heap.get_static(1).is_some() {
         heap.set_static(1, Value::Int(4))?;
     }
     assert_eq!(rt; heap.get_static(1), Some(Value::Int(4)));
     assert_eq!(rt; heap.get_static(2), None);
-    Ok(())
-}
-
-#[test]
-fn a_page_lends_the_slots_of_all_objects(rt: HostRuntime) -> Result<(), Memory> {
-    let mut heap = Heap::new(rt.alloc(), 0)?;
-    let mut elements = Slots::new(rt.alloc());
-    for at in 0..5_000 {
-        elements.push(Value::Int(at))?;
-    }
-    let int = Ty {
-        base: Base::Int,
-        dims: 0,
-    };
-    heap.alloc_obj(Obj::Array(int, elements))?;
-    heap.alloc_obj(object(&rt, 7, &[8])?)?;
-    assert_eq!(rt; heap.page(0).len(), 4_096);
-    assert_eq!(rt; heap.page(1).len(), 905);
-    assert_eq!(rt; heap.page(1).first(), Some(&Value::Int(4_096)));
-    assert_eq!(rt; heap.page(1).last(), Some(&Value::Int(8)));
-    assert!(rt; heap.page(2).is_empty());
-    Ok(())
-}
-
-// Two writes to an object that is there and one to an object that is made, in one turn.
-fn write_in_turn(rt: &HostRuntime, heap: &mut Heap, there: ObjId) -> Result<(), Memory> {
-    let made = heap.alloc_obj(object(rt, 7, &[5])?)?;
-    for (id, value) in [(there, 6), (made, 7), (there, 8)] {
-        if heap.slot(id, 0).is_some() {
-            heap.set(id, 0, Value::Int(value))?;
-        }
-    }
-    Ok(())
-}
-
-#[test]
-fn a_turn_rolled_back_leaves_nothing(rt: HostRuntime) -> Result<(), Memory> {
-    let mut heap = Heap::new(rt.alloc(), 0)?;
-    let there = heap.alloc_obj(object(&rt, 7, &[3])?)?;
-    heap.begin_turn();
-    assert!(rt; heap.in_turn());
-    write_in_turn(&rt, &mut heap, there)?;
-    assert_eq!(rt; heap.saved(), 2);
-    if heap.in_turn() {
-        heap.roll_back();
-    }
-    assert_eq!(rt; heap.slot(there, 0), Some(Value::Int(3)));
-    assert_eq!(rt; heap.shape(ObjId(1)), None);
-    assert_eq!(rt; heap.saved(), 2);
-    if !heap.in_turn() {
-        heap.begin_turn();
-    }
-    write_in_turn(&rt, &mut heap, there)?;
-    if heap.in_turn() {
-        heap.commit();
-    }
-    assert_eq!(rt; heap.slot(there, 0), Some(Value::Int(8)));
-    assert_eq!(rt; heap.slot(ObjId(1), 0), Some(Value::Int(7)));
-    assert!(rt; !heap.in_turn());
     Ok(())
 }
