@@ -14,7 +14,7 @@ use Rattle.je_classes.specs.Fields.{fields_in, fields_of}
 use Rattle.je_classes.specs.Hierarchy.{class_at}
 use Rattle.je_classes.specs.Slots.{is_instance, slot_fields, slot_after, field_slot_in, field_slot}
 use Rattle.class_tables.specs.FieldTables.{first_slot_in, first_slot, IsFieldTableOf}
-use Rattle.class_tables.specs.Statics.{is_static, statics_before, static_after, static_place_in, static_place}
+use Rattle.je_classes.specs.Statics.{is_static, statics_before, static_after, static_place_in, static_place}
 use Rattle.class_tables.specs.declared.table.FieldTable.{FieldTable}
 use Rattle.class_tables.specs.way.Order.{IsWhole}
 use Rattle.class_tables.specs.way.Slots.{total_of, known, known_above, AreTotals, AreBefore, list_at, fields_at}

@@ -8,7 +8,7 @@ use Rattle.std.proofs.lemmas.List.{take_more}
 use Rattle.std.proofs.lemmas.Option.{slice_get_within, get_or_from_slice_get}
 use Rattle.je_core.specs.Core.{CoreClass, CoreProgram}
 use Rattle.class_tables.specs.Few.{AreFew}
-use Rattle.class_tables.specs.Statics.{is_static, static_count, statics_before}
+use Rattle.je_classes.specs.Statics.{is_static, static_count, statics_before}
 use Rattle.class_tables.specs.way.Slots.{fields_at}
 use Rattle.class_tables.proofs.Orders.{get-old, get-new, get-there}
 

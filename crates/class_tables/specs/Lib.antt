@@ -1,4 +1,3 @@
 pub mod Few
-pub mod Statics
 pub mod FieldTables
 pub mod way

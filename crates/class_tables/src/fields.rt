@@ -6,7 +6,7 @@ ghost use Rattle.je_classes.specs.Hierarchy.{IsAcyclic};
 ghost use Rattle.je_classes.specs.Slots.{is_instance};
 ghost use Rattle.class_tables.specs.Few.{AreFew};
 ghost use Rattle.class_tables.specs.way.Order.{IsWhole};
-ghost use Rattle.class_tables.specs.Statics.{is_static};
+ghost use Rattle.je_classes.specs.Statics.{is_static};
 ghost use Rattle.class_tables.specs.way.Slots.{AreBefore, AreCounts, AreStatics, AreTotals, IsKnownAbove, fields_at, known_above, total_of};
 
 use je_classes::class_count;

@@ -25,7 +25,7 @@ impl FieldTable {
     ghost use Rattle.je_classes.specs.Slots.{field_slot, slot_fields};
     ghost use Rattle.class_tables.specs.Few.{AreFew};
     ghost use Rattle.class_tables.specs.FieldTables.{IsFieldTableOf, first_slot};
-    ghost use Rattle.class_tables.specs.Statics.{static_place};
+    ghost use Rattle.je_classes.specs.Statics.{static_place};
     ghost use Rattle.class_tables.specs.way.Slots.{list_at};
 
     /// The table of a program in which no class is above itself, and that has fewer than 2^31 classes, and fields in each class.

@@ -2,6 +2,7 @@ pub mod Hierarchy
 pub mod Subtypes
 pub mod Members
 pub mod Slots
+pub mod Statics
 pub mod Dispatch
 pub mod Fields
 pub mod Methods

@@ -6,6 +6,6 @@ pub mod Quantified
 mod MembersDecided
 pub mod ClassesDecided
 pub mod FirstMisfit
-mod Acyclic
+pub mod Acyclic
 mod Rows
 mod ProgramRows

@@ -1,7 +1,8 @@
 -- How large a program may be whose parts are to have numbers.
-use Rattle.std.specs.Prelude.{ℕ, ◌+◌, ◌<◌, ◌^◌, length, sum, map, count_by}
+use Rattle.std.specs.Prelude.{ℕ, ◌+◌, ◌<◌, ◌^◌, length, sum, map}
 use Rattle.std.specs.List.{All}
-use Rattle.je_core.specs.Core.{CoreField, CoreInitializer, CoreMethod, CoreClass, CoreProgram}
+use Rattle.je_classes.specs.Statics.{static_count}
+use Rattle.je_core.specs.Core.{CoreInitializer, CoreMethod, CoreClass, CoreProgram}
 
 pub record ClassIsSmall (c : CoreClass) : Type 0 where
   pub heads : length c.heads < 2 ^ 31
@@ -12,11 +13,8 @@ pub record ClassIsSmall (c : CoreClass) : Type 0 where
   pub method_locals : All (λ (m : CoreMethod). length m.locals < 2 ^ 31) c.methods
   pub initializer_locals : All (λ (i : CoreInitializer). length i.locals < 2 ^ 31) c.initializers
 
-abbrev pub static_fields : CoreClass → ℕ
-static_fields c = count_by (λ (f : CoreField). f.is_static) c.fields
-
 -- Fewer than 2^31 classes, and of each kind of part in each class, and static fields and texts together.
 pub record IsSmall (program : CoreProgram) : Type 0 where
   pub classes : length program.classes < 2 ^ 31
   pub each : All ClassIsSmall program.classes
-  pub statics : sum (map static_fields program.classes) + length program.texts < 2 ^ 31
+  pub statics : sum (map static_count program.classes) + length program.texts < 2 ^ 31

@@ -3,7 +3,8 @@
 ghost use Rattle.std.specs.Prelude.{◌≡◌, ◌<◌, ◌^◌, true, length, sum, map};
 ghost use Rattle.std.specs.List.{list_all};
 ghost use Rattle.je_core.specs.View.{class_view, initializer_view, method_view, program_view};
-ghost use Rattle.je_types.specs.Limits.{IsSmall, static_fields};
+ghost use Rattle.je_classes.specs.Statics.{static_count};
+ghost use Rattle.je_types.specs.Limits.{IsSmall};
 ghost use Rattle.je_types.specs.way.Small.{begins_few_locals, has_few_locals, is_few as the_is_few, is_small as the_is_small, is_small_class as the_is_small_class};
 
 use je_core::{Class, Initializer, Method, Program};
@@ -61,7 +62,7 @@ fn are_small_classes(classes: &[Class]) -> bool
 
 // How many static fields a class has.
 fn statics_of(class: &Class) -> u64
-    ensures value { result ≡ static_fields (class_view class.now) }
+    ensures value { result ≡ static_count (class_view class.now) }
 {
     let mut count: u64 = 0;
     for field in &class.fields {
@@ -74,7 +75,7 @@ fn statics_of(class: &Class) -> u64
 
 // How many static fields some classes have.
 fn statics_among(classes: &[Class]) -> u128
-    ensures value { result ≡ sum (map static_fields (map class_view classes.now)) }
+    ensures value { result ≡ sum (map static_count (map class_view classes.now)) }
     ensures bound { result < 2 ^ 127 }
 {
     let mut count: u128 = 0;

@@ -154,3 +154,27 @@ fn names_find_members_in_an_accepted_program(rt: HostRuntime) -> Result<(), Memo
     }
     Ok(())
 }
+
+#[test]
+fn fields_of_an_accepted_program_have_places(rt: HostRuntime) -> Result<(), Memory> {
+    let alloc = rt.alloc();
+    let names = names_of_library(alloc)?;
+    let program = library_alone(alloc, &names)?;
+    let Some(Ok(typed)) = checked(alloc, program) else {
+        assert_eq!(rt; false, true);
+        return Ok(());
+    };
+    let (integer, long) = (ClassId(3), ClassId(4));
+    let (throwable, refused) = (ClassId(9), ClassId(23));
+    // the message of what is thrown, and behind it a refusal's code
+    assert_eq!(rt; typed.slot(throwable, 0), Some(0));
+    assert_eq!(rt; typed.first_slot(refused), 1);
+    assert_eq!(rt; typed.slot(refused, 0), Some(1));
+    assert_eq!(rt; typed.slot_count(refused), 2);
+    assert_eq!(rt; typed.static_place(refused, 0), None);
+    // the bounds of int, and behind them those of long
+    assert_eq!(rt; typed.static_place(integer, 1), Some(1));
+    assert_eq!(rt; typed.static_place(long, 0), Some(2));
+    assert_eq!(rt; typed.slot(long, 0), None);
+    Ok(())
+}

@@ -5,7 +5,7 @@ use Rattle.je_core.specs.declared.types.ClassId.{ClassId}
 use Rattle.je_core.specs.Core.{CoreField, CoreClass, CoreProgram}
 use Rattle.je_classes.specs.Members.{In}
 use Rattle.je_classes.specs.Slots.{is_instance, slot_fields}
-use Rattle.class_tables.specs.Statics.{statics_before}
+use Rattle.je_classes.specs.Statics.{statics_before}
 use Rattle.class_tables.specs.way.Order.{first_super}
 
 -- how many slots the instances of a class have

@@ -2,7 +2,7 @@
 use Rattle.std.specs.Prelude.{ℕ, ◌+◌, ◌^◌, ◌&&◌, Bool, length, nat_lt, sum, map}
 use Rattle.std.specs.List.{list_all}
 use Rattle.je_core.specs.Core.{CoreInitializer, CoreMethod, CoreClass, CoreProgram}
-use Rattle.je_types.specs.Limits.{static_fields}
+use Rattle.je_classes.specs.Statics.{static_count}
 
 abbrev pub is_few : ℕ → Bool
 is_few n = nat_lt n (2 ^ 31)
@@ -19,7 +19,7 @@ is_small_class c =
     list_all has_few_locals c.methods && list_all begins_few_locals c.initializers
 
 abbrev pub number_of_statics : CoreProgram → ℕ
-number_of_statics p = sum (map static_fields p.classes) + length p.texts
+number_of_statics p = sum (map static_count p.classes) + length p.texts
 
 abbrev pub is_small : CoreProgram → Bool
 is_small p = is_few (length p.classes) && list_all is_small_class p.classes && is_few (number_of_statics p)

@@ -1,7 +1,7 @@
 use Rattle.std.proofs.Common.{◌≡◌, ◌≤◌, ◌+◌, drop, map}
 use Rattle.std.specs.List.{count_by}
 use Rattle.je_core.specs.View.{field_view}
-use Rattle.class_tables.specs.Statics.{is_static}
+use Rattle.je_classes.specs.Statics.{is_static}
 use Rattle.class_tables.proofs.fields.static_count.Given as goal
 
 abbrev pub invariant-loop-field : goal.invariant-loop-field

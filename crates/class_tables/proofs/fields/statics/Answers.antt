@@ -2,7 +2,7 @@ use Rattle.std.proofs.Common.{◌≡◌, ◌+◌, ◌<◌, ◌++◌, [], ◌∷�
 use Rattle.std.specs.Prelude.{slice_get}
 use Rattle.std.specs.List.{count_by}
 use Rattle.je_core.specs.View.{program_view}
-use Rattle.class_tables.specs.Statics.{is_static, statics_before}
+use Rattle.je_classes.specs.Statics.{is_static, statics_before}
 use Rattle.class_tables.specs.way.Slots.{fields_at}
 use Rattle.class_tables.proofs.Orders.{length-push}
 use Rattle.class_tables.proofs.StaticPlaces.{before-fits, next-is, each-more}

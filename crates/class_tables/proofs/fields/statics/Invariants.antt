@@ -1,7 +1,7 @@
 use Rattle.std.proofs.Common.{◌≡◌, ℕ, ◌<◌, length, Some}
 use Rattle.std.specs.Prelude.{slice_get}
 use Rattle.je_core.specs.View.{program_view}
-use Rattle.class_tables.specs.Statics.{statics_before}
+use Rattle.je_classes.specs.Statics.{statics_before}
 use Rattle.class_tables.proofs.fields.statics.Given as goal
 
 abbrev pub invariant-loop-at : goal.invariant-loop-at

@@ -5,4 +5,5 @@ invariant_of-result c = record {
   library = ∣ c.requires.library ∣₁;
   small = ∣ c.requires.small ∣₁;
   fits = c.requires.fits;
+  placed = c.requires.placed;
 }
