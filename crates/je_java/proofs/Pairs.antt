@@ -3,7 +3,7 @@ use Rattle.std.proofs.Common.{◌≡◌, ℕ, zero, suc, ◌≤◌, List, [], �
 use Rattle.std.specs.Prelude.{ℤ, slice_get, slice_set, nat_eq, Bool}
 use Rattle.je_base.specs.declared.span.NameId.{NameId}
 use Rattle.je_core.specs.declared.object.Obj.{Obj}
-use Rattle.je_core.specs.declared.object.Obj.TheVariants.{Instance, Array}
+use Rattle.je_core.specs.declared.object.Obj.TheVariants.{Instance, Array, Text, Builder, Row, Cap}
 use Rattle.je_core.specs.declared.types.ClassId.{ClassId}
 use Rattle.je_core.specs.declared.types.Ty.{Ty}
 use Rattle.je_core.specs.declared.value.ObjId.{ObjId}
@@ -11,7 +11,7 @@ use Rattle.je_core.specs.declared.value.Value.{Value}
 use Rattle.je_core.specs.declared.value.Value.TheVariants as value
 use Rattle.je_java.specs.declared.call.Receiver.{Receiver}
 use Rattle.je_java.specs.declared.call.Receiver.TheVariants as receiver
-use Rattle.je_java.specs.World.{class_of, type_of, extent_of, slot_of, with_slot}
+use Rattle.je_java.specs.World.{class_of, type_of, extent_of, slot_of, with_slot, units_of, held_by, with_units_at}
 use Rattle.je_java.specs.Steps.{State, Own, Public, Answer, Spent, Wrong, Run, Exits, Computation}
 
 -- two runs side by side: when which objects are paired, and which worlds, public parts and answers go together;
@@ -48,6 +48,10 @@ module _ (R : Parts) where
   pub data ObjectRel (k : ℕ) : Obj → Obj → Type 0 where
     instance : {class : ClassId} {vs ws : List Value} → ListRel (ValueRel k) vs ws → ObjectRel k (Instance class vs) (Instance class ws)
     array : {element : Ty} {vs ws : List Value} → ListRel (ValueRel k) vs ws → ObjectRel k (Array element vs) (Array element ws)
+    text : {units : List ℕ} → ObjectRel k (Text units) (Text units)
+    builder : {units : List ℕ} → ObjectRel k (Builder units) (Builder units)
+    row : {class : ClassId} {vs ws : List Value} → ListRel (ValueRel k) vs ws → ObjectRel k (Row class vs) (Row class ws)
+    cap : {device : ℕ} {class : ClassId} → ObjectRel k (Cap device class) (Cap device class)
 
   -- two calls on nothing, on two objects that go together, or on a new one each
   pub data ReceiverRel (k : ℕ) : Receiver → Receiver → Type 0 where
@@ -98,6 +102,9 @@ module _ (R : Parts) where
     pub extents : (k : ℕ) (os ps : List Obj) (a b : ℕ) → R.Worlds k os ps → R.Pair k a b → extent_of os a ≡ extent_of ps b
     pub reads : (k : ℕ) (os ps : List Obj) (a b at : ℕ) → R.Worlds k os ps → R.Pair k a b → OptionRel (ValueRel k) (slot_of os a at) (slot_of ps b at)
     pub writes : (k : ℕ) (os ps : List Obj) (a b at : ℕ) (v w : Value) → R.Worlds k os ps → R.Pair k a b → ValueRel k v w → R.Worlds k (with_slot os a at v) (with_slot ps b at w)
+    pub texts : (k : ℕ) (os ps : List Obj) (a b : ℕ) → R.Worlds k os ps → R.Pair k a b → units_of os a ≡ units_of ps b
+    pub builders : (k : ℕ) (os ps : List Obj) (a b : ℕ) → R.Worlds k os ps → R.Pair k a b → held_by os a ≡ held_by ps b
+    pub puts : (k : ℕ) (os ps : List Obj) (a b : ℕ) (units : List ℕ) → R.Worlds k os ps → R.Pair k a b → R.Worlds k (with_units_at os a units) (with_units_at ps b units)
     pub makes : (k : ℕ) (os ps : List Obj) (o o' : Obj) → R.Worlds k os ps → ObjectRel k o o' →
         R.Worlds (suc k) (os ++ o ∷ []) (ps ++ o' ∷ []) × R.Pair (suc k) (length os) (length ps)
 

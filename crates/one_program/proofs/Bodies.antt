@@ -1,5 +1,5 @@
 -- A body's nodes so far, and those still to come.
-use Rattle.std.proofs.Common.{refl, ◌≡◌, ◌∙◌, List, [], ◌∷◌, ◌++◌, Some, sym, ap, subst}
+use Rattle.std.proofs.Common.{refl, ◌≡◌, ◌∙◌, List, [], ◌∷◌, ◌++◌, Some, ap}
 use Rattle.std.proofs.lemmas.List.{append_assoc, map-append}
 use Rattle.std.specs.declared.rc.Rc.{Rc}
 use Rattle.std.specs.declared.alloc.Global.{Global}

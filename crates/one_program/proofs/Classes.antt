@@ -1,5 +1,5 @@
 -- The members of a class, so far and still to come.
-use Rattle.std.proofs.Common.{◌≡◌, ◌∙◌, ℕ, ◌+◌, ◌≤◌, List, [], ◌∷◌, ◌++◌, length, map, refl, sym, ap, arith, Bool, Option, Some, None, true, false}
+use Rattle.std.proofs.Common.{◌≡◌, ◌∙◌, ℕ, ◌≤◌, List, [], ◌∷◌, ◌++◌, length, map, refl, sym, ap, arith, Bool, Option, Some, None, true, false}
 use Rattle.std.specs.Prelude.{IfSome, IfNone, slice_get, codes, option_map}
 use Rattle.je_base.specs.Names.{text_of, number_of, EachOnce}
 use Rattle.one_program.specs.Names.{AreDistinct}

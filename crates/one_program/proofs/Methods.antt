@@ -10,7 +10,7 @@ use Rattle.je_core.specs.View.{stmt_views}
 use Rattle.one_syntax.specs.Trees.{StatementTree, ExprTree}
 use Rattle.one_program.specs.declared.body.MadeBody.{MadeBody}
 use Rattle.one_program.specs.Scope.{Variable, Members, scope_of}
-use Rattle.one_program.specs.Elaboration.{◌>>=◌, nowhere, flags_of, int_type, declared, block, numbers_from, body_of, locals_of, method_with, core_method}
+use Rattle.one_program.specs.Elaboration.{◌>>=◌, nowhere, flags_of, int_type, declared, block, numbers_from, locals_of, method_with, core_method}
 use Rattle.one_program.specs.way.Bodies.{IsMadeBody}
 
 abbrev pub method_of_parts : NameId → List Ty → Flags → List ClassId → List Local → CoreStmt → CoreMethod

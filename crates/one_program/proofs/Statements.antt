@@ -2,7 +2,7 @@
 use Rattle.std.proofs.Common.{◌≡◌, ◌∙◌, Some, ap, sym}
 use Rattle.je_base.specs.declared.span.NameId.{NameId}
 use Rattle.je_core.specs.Core.{Core, CoreStmt}
-use Rattle.one_syntax.specs.Trees.{ExprTree, name, assign}
+use Rattle.one_syntax.specs.Trees.{ExprTree, assign}
 use Rattle.one_program.specs.declared.scope.Place.{Place}
 use Rattle.one_program.specs.Scope.{Scope}
 use Rattle.one_program.specs.Elaboration.{◌>>=◌, int_type, stores, core_of, statement_of}

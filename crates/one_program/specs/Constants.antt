@@ -1,7 +1,6 @@
 -- Constant expressions of a One (JLS 15.28): literals, and operators on them. No name stands for a constant, since no variable is final.
 use Rattle.std.specs.Prelude.{ℤ, pos, Option, Some, None}
 use Rattle.je_core.specs.declared.expr.BinOp.{BinOp}
-use Rattle.je_core.specs.declared.value.Value.{Value}
 use Rattle.je_core.specs.declared.value.Value.TheVariants.{Int}
 use Rattle.je_arith.specs.declared.outcome.Outcome.{Outcome}
 use Rattle.je_arith.specs.declared.outcome.Outcome.TheVariants.{Gives}

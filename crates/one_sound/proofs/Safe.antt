@@ -1,20 +1,20 @@
 -- What evaluation keeps, whatever it is: an invariant of states, and computations that keep it and come to a fine answer.
-use Rattle.std.proofs.Common.{◌≡◌, ℕ, zero, suc, ◌-◌, List, [], ◌∷◌, ◌++◌, length, Option, Some, refl, subst, sym}
+use Rattle.std.proofs.Common.{◌≡◌, ℕ, zero, suc, ◌-◌, List, [], ◌∷◌, ◌++◌, length, Option, Some, subst, sym}
 use Rattle.std.specs.Prelude.{Bool, true, false, ℤ, nat_le, if◌then◌else◌, slice_get, slice_set}
 use Rattle.je_core.specs.Defaults.{default_of}
 use Rattle.je_core.specs.declared.expr.BinOp.{BinOp}
 use Rattle.je_core.specs.declared.object.Obj.{Obj}
-use Rattle.je_core.specs.declared.object.Obj.TheVariants.{Instance}
+use Rattle.je_core.specs.declared.object.Obj.TheVariants.{Instance, Text}
 use Rattle.je_core.specs.Core.{CoreStmt, CoreMethod, CoreProgram}
 use Rattle.je_core.specs.declared.types.ClassId.{ClassId}
 use Rattle.je_core.specs.declared.value.ObjId.{ObjId}
 use Rattle.je_core.specs.declared.value.Value.{Value}
 use Rattle.je_core.specs.declared.value.Value.TheVariants.{Int, Ref}
 use Rattle.je_java.specs.Classes.{fresh_slots, field_slot, locals_for}
-use Rattle.je_java.specs.World.{class_of, slot_of, with_slot}
+use Rattle.je_java.specs.World.{class_of, slot_of, with_slot, units_of, held_by, with_units_at}
 use Rattle.je_arith.specs.declared.outcome.Outcome.TheVariants.{Gives}
 use Rattle.je_arith.specs.Operators.{binary as binary_outcome}
-use Rattle.je_java.specs.Steps.{State, Own, Answer, Spent, Run, Nothing, Exits, Computation, ret, bind, seq, yields, spent, throw, leave, need, framed, with_own, with_objects, with_units, tick, tick_at, charge, get_this, get_local, put_local, get_class, get_slot, put_slot, new_object, make, raise, deref, computed, binary, read_field, write_field}
+use Rattle.je_java.specs.Steps.{State, Own, Answer, Spent, Run, Nothing, Exits, Computation, ret, bind, seq, yields, spent, throw, leave, need, framed, with_own, with_objects, with_units, tick, tick_at, charge, get_this, get_local, put_local, get_class, get_slot, put_slot, get_units, put_units, new_object, make, make_text, raise, deref, computed, binary, read_field, write_field}
 use Rattle.je_java.specs.Meaning.{Meanings, run_method}
 
 -- what holds of states between the steps
@@ -216,6 +216,28 @@ module _ {I : Invariant} {L : Known I Value} {t : I.Time} {c : I.Context} where
         rw found.1 (on.from t (I.same t) value r (with_objects s (with_slot s.world.objects object.0 at value)) (record { objects = found.2; own = fits.own }));
   }
 
+  pub safe-get_units : {Q : Known I (List ℕ)} (object : ObjId) →
+      ((objects : List Obj) → I.ObjectsFit t objects →
+      (units : List ℕ) × (units_of objects object.0 ≡ Some units) × Q t units) →
+      Safe I L t c c Q (get_units object)
+  unfolding get_units
+  safe-get_units object q = record {
+    run = λ go exits on out s fits.
+        let found = q s.world.objects fits.objects in
+        rw found.1 (on.from t (I.same t) found.0 found.2 s fits);
+  }
+
+  pub safe-put_units : (object : ObjId) (units : List ℕ) →
+      ((objects : List Obj) → I.ObjectsFit t objects →
+      (old : List ℕ) × (held_by objects object.0 ≡ Some old) × I.ObjectsFit t (with_units_at objects object.0 units)) →
+      Safe I L t c c Any (put_units object units)
+  unfolding put_units
+  safe-put_units object units q = record {
+    run = λ go exits on out s fits.
+        let found = q s.world.objects fits.objects in
+        rw found.1 (on.from t (I.same t) tt (record {}) (with_objects s (with_units_at s.world.objects object.0 units)) (record { objects = found.2; own = fits.own }));
+  }
+
   -- what is known of the objects grows by the new one
   pub safe-new_object : {Q : Known I ObjId} (object : Obj) →
       ((objects : List Obj) → I.ObjectsFit t objects →
@@ -245,6 +267,13 @@ module _ {I : Invariant} {L : Known I Value} {t : I.Time} {c : I.Context} where
       Safe I L t c c Q (make program class)
   unfolding make
   safe-make {slots = slots} program class e q = safe-need _ e (safe-seq (safe-charge (length slots)) λ u l. safe-new_object _ (q u l))
+
+  pub safe-make_text : {Q : Known I ObjId} (units : List ℕ) →
+      ((u : I.Time) → I.Later t u → (objects : List Obj) → I.ObjectsFit u objects →
+      (v : I.Time) × I.Later u v × I.ObjectsFit v (objects ++ Text units ∷ []) × Q v (record { 0 = length objects })) →
+      Safe I L t c c Q (make_text units)
+  unfolding make_text
+  safe-make_text units q = safe-seq (safe-charge (length units)) λ u l. safe-new_object _ (q u l)
 
   -- an exception that is thrown once it is made
   pub safe-raise : {A : Type 0} {d : I.Context} {Q : Known I A} {slots : List Value} (program : CoreProgram) (class : ClassId) →
