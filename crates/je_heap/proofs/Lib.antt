@@ -1,2 +1,3 @@
 pub mod Journals
 pub mod Laying
+pub mod Texts

@@ -3,9 +3,9 @@ use Rattle.std.specs.Prelude.{ℕ, List, length, Option, Some, None, option_map}
 use Rattle.je_core.specs.declared.object.Obj.{Obj}
 use Rattle.je_core.specs.declared.value.ObjId.{ObjId}
 use Rattle.je_core.specs.declared.value.Value.{Value}
-use Rattle.je_java.specs.World.{World, slot_of, with_slot}
+use Rattle.je_java.specs.World.{World, slot_of, units_of, with_slot, with_units_at}
 use Rattle.std.specs.Prelude.{slice_get, slice_set}
-use Rattle.je_heap.specs.Turns.{Turn, before, slot_noted, variable_noted}
+use Rattle.je_heap.specs.Turns.{Turn, before, slot_noted, units_noted, variable_noted}
 
 -- a world, the turn that has begun, and how many writes the last one that ended had noted
 pub record Contents : Type 0 where
@@ -24,6 +24,13 @@ abbrev pub with_slot_written : Contents → ObjId → ℕ → Value → Contents
 with_slot_written contents id at value = record contents {
   world = record contents.world { objects = with_slot contents.world.objects id.0 at value };
   turn = option_map (slot_noted id at (slot_of contents.world.objects id.0 at)) contents.turn;
+}
+
+-- to a builder's units
+abbrev pub with_units_written : Contents → ObjId → List ℕ → Contents
+with_units_written contents id units = record contents {
+  world = record contents.world { objects = with_units_at contents.world.objects id.0 units };
+  turn = option_map (units_noted id (units_of contents.world.objects id.0)) contents.turn;
 }
 
 -- and to a class variable

@@ -2,9 +2,9 @@
 use Rattle.std.specs.Prelude.{ℕ, List, [], ◌∷◌, ◌++◌, take, Option, Some, None, slice_set, nat_lt, if◌then◌else◌}
 use Rattle.je_core.specs.declared.value.ObjId.{ObjId}
 use Rattle.je_core.specs.declared.value.Value.{Value}
-use Rattle.je_java.specs.World.{World, with_slot}
+use Rattle.je_java.specs.World.{World, with_slot, with_units_at}
 use Rattle.je_heap.specs.declared.turn.Saved.{Saved}
-use Rattle.je_heap.specs.declared.turn.Saved.TheVariants.{Slot, Variable}
+use Rattle.je_heap.specs.declared.turn.Saved.TheVariants.{Slot, Variable, Units}
 
 -- `made_before` is how many objects there were when it began
 pub record Turn : Type 0 where
@@ -23,6 +23,10 @@ abbrev pub slot_noted : ObjId → ℕ → Option Value → Turn → Turn
 slot_noted id at None turn = turn
 slot_noted id at (Some old) turn = if nat_lt id.0 turn.made_before then noted (Slot id at old) turn else turn
 
+abbrev pub units_noted : ObjId → Option (List ℕ) → Turn → Turn
+units_noted id None turn = turn
+units_noted id (Some old) turn = if nat_lt id.0 turn.made_before then noted (Units id old) turn else turn
+
 abbrev pub variable_noted : ℕ → Option Value → Turn → Turn
 variable_noted at None turn = turn
 variable_noted at (Some old) turn = noted (Variable at old) turn
@@ -30,6 +34,7 @@ variable_noted at (Some old) turn = noted (Variable at old) turn
 -- the world in which what a write replaced stands again
 abbrev pub undone : World → Saved → World
 undone world (Slot id at old) = record world { objects = with_slot world.objects id.0 at old }
+undone world (Units id old) = record world { objects = with_units_at world.objects id.0 old }
 undone world (Variable at old) = record world { statics = slice_set world.statics at old }
 
 -- that in which all of a journal does, the latest first

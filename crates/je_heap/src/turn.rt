@@ -1,18 +1,23 @@
 // What writes have replaced since a turn began.
 
-ghost use Rattle.std.specs.Prelude.{◌≡◌, ◌∷◌, ◌++◌, OnOk, OnErr, Some, length};
-ghost use Rattle.je_heap.specs.Turns.{slot_noted, turn_from, variable_noted};
+ghost use Rattle.std.specs.Prelude.{◌≡◌, ◌∷◌, ◌++◌, OnOk, OnErr, Some, length, nat_lt};
+ghost use Rattle.je_java.specs.World.{units_of, with_units_at};
+ghost use Rattle.je_heap.specs.Shape.{IsBuilder};
+ghost use Rattle.je_heap.specs.Turns.{slot_noted, turn_from, units_noted, variable_noted};
 ghost use Rattle.je_heap.specs.way.Journals.{LeavesLast};
 
-use je_core::{Memory, ObjId, Value};
+use crate::objects::Objects;
+use je_core::{Memory, ObjId, Units, Value};
 use std::alloc::Global;
 use std::marker::Model;
 
 /// What a write replaced.
-#[derive(Clone, Copy, PartialEq, Eq, Debug)]
+#[derive(Drop)]
 pub enum Saved {
     /// The old value of a slot of an object.
     Slot(ObjId, u64, Value),
+    /// The old units of a builder.
+    Units(ObjId, Units),
     /// The old value of a class variable.
     Variable(u32, Value),
 }
@@ -50,6 +55,13 @@ impl Turn {
         self.made_before
     }
 
+    // Whether an object was there before the turn.
+    fn was_there(&self, id: ObjId) -> bool
+        ensures { result ≡ nat_lt id.0 self.now.made_before }
+    {
+        id.0 < self.made_before as u64
+    }
+
     /// How many writes it has noted.
     pub fn saved(&self) -> u64
         ensures { result ≡ length self.now.journal }
@@ -62,8 +74,31 @@ impl Turn {
         ensures ok { OnOk result (self.new ≡ slot_noted id at (Some old) self.old) }
         ensures err { OnErr result (self.new ≡ self.old) }
     {
-        if id.0 < self.made_before as u64 {
+        if self.was_there(id) {
             self.journal.push(Saved::Slot(id, at, old))?;
+        }
+        Ok(())
+    }
+
+    /// Puts units into a builder in place of its own, and notes those, where the builder was there before the turn.
+    pub fn put_units(
+        &mut self,
+        objects: &mut Objects,
+        id: ObjId,
+        units: Units,
+    ) -> Result<(), Memory>
+        requires { IsBuilder objects.old id.0 }
+        ensures ok { OnOk result (self.new ≡ units_noted id (units_of objects.old id.0) self.old) }
+        ensures put { OnOk result (objects.new ≡ with_units_at objects.old id.0 units) }
+        ensures err { OnErr result (self.new ≡ self.old) }
+        ensures left { OnErr result (objects.new ≡ objects.old) }
+    {
+        if self.was_there(id) {
+            self.journal.reserve(1)?;
+            let old = objects.put_units(id, units);
+            let _ = self.journal.push(Saved::Units(id, old));
+        } else {
+            let _ = objects.put_units(id, units);
         }
         Ok(())
     }

@@ -2,7 +2,7 @@
 use Rattle.std.proofs.Common.{◌≡◌, ℕ, List, Option, Some, None, refl}
 use Rattle.std.specs.Prelude.{option_map, slice_get}
 use Rattle.je_core.specs.declared.object.Obj.{Obj}
-use Rattle.je_core.specs.declared.object.Obj.TheVariants.{Instance, Array}
+use Rattle.je_core.specs.declared.object.Obj.TheVariants.{Instance, Array, Text, Builder, Row, Cap}
 use Rattle.je_heap.specs.Shape.{shape_of, shape_at}
 use Rattle.je_java.specs.World.{class_in, class_of, type_in, type_of, extent_in, extent_of}
 use Rattle.machine_parts.specs.way.Shapes.{class_by, type_by, extent_by}
@@ -11,6 +11,10 @@ class_seen_in : (o : Option Obj) → class_by (option_map shape_of o) ≡ class_
 class_seen_in None = refl
 class_seen_in (Some (Instance class slots)) = refl
 class_seen_in (Some (Array element slots)) = refl
+class_seen_in (Some (Text units)) = refl
+class_seen_in (Some (Builder units)) = refl
+class_seen_in (Some (Row class slots)) = refl
+class_seen_in (Some (Cap device class)) = refl
 
 pub class_seen : (objects : List Obj) (id : ℕ) → class_by (shape_at objects id) ≡ class_of objects id
 class_seen objects id = class_seen_in (slice_get objects id)
@@ -19,6 +23,10 @@ type_seen_in : (o : Option Obj) → type_by (option_map shape_of o) ≡ type_in 
 type_seen_in None = refl
 type_seen_in (Some (Instance class slots)) = refl
 type_seen_in (Some (Array element slots)) = refl
+type_seen_in (Some (Text units)) = refl
+type_seen_in (Some (Builder units)) = refl
+type_seen_in (Some (Row class slots)) = refl
+type_seen_in (Some (Cap device class)) = refl
 
 pub type_seen : (objects : List Obj) (id : ℕ) → type_by (shape_at objects id) ≡ type_of objects id
 type_seen objects id = type_seen_in (slice_get objects id)
@@ -27,6 +35,10 @@ extent_seen_in : (o : Option Obj) → extent_by (option_map shape_of o) ≡ exte
 extent_seen_in None = refl
 extent_seen_in (Some (Instance class slots)) = refl
 extent_seen_in (Some (Array element slots)) = refl
+extent_seen_in (Some (Text units)) = refl
+extent_seen_in (Some (Builder units)) = refl
+extent_seen_in (Some (Row class slots)) = refl
+extent_seen_in (Some (Cap device class)) = refl
 
 pub extent_seen : (objects : List Obj) (id : ℕ) → extent_by (shape_at objects id) ≡ extent_of objects id
 extent_seen objects id = extent_seen_in (slice_get objects id)

@@ -1,6 +1,6 @@
 -- The places of class variables and constant strings, from what stands in memory.
 use Rattle.std.proofs.Common.{◌≡◌, ◌<◌, ◌≤◌, ℕ, suc, ◌+◌, List, ◌∷◌, length, map, drop, get_or, Option, Some, None, refl, sym, ap, ◌∙◌, add-one, arith}
-use Rattle.std.specs.Prelude.{true, false, if◌then◌else◌, take, slice_get, option_map}
+use Rattle.std.specs.Prelude.{true, false, if◌then◌else◌, count_by, take, slice_get, option_map}
 use Rattle.std.specs.Str.{bytes_eq}
 use Rattle.std.proofs.Math.Seq.{drop-cons}
 use Rattle.std.proofs.Math.ListN.{drop_of_length-le}
@@ -11,29 +11,30 @@ use Rattle.je_core.specs.declared.program.Class.{Class}
 use Rattle.je_core.specs.declared.program.Field.{Field}
 use Rattle.je_core.specs.Core.{CoreClass}
 use Rattle.je_core.specs.View.{field_view, class_view}
-use Rattle.je_java.specs.Classes.{static_count, statics_of, static_after}
+use Rattle.je_classes.specs.Statics.{is_static, static_after}
+use Rattle.je_java.specs.Classes.{statics_of}
 
 -- the field of a number
 
 field_found : (fs : List Field) (at : ℕ) (found : Option Field) (before : ℕ) → slice_get fs at ≡ found →
-    static_after (slice_get (map field_view fs) at) (before + static_count (take at (map field_view fs))) ≡ static_after (option_map field_view found) (before + static_count (map field_view (take at fs)))
+    static_after (slice_get (map field_view fs) at) (before + count_by is_static (take at (map field_view fs))) ≡ static_after (option_map field_view found) (before + count_by is_static (map field_view (take at fs)))
 field_found fs at found before e =
-    ap (λ o. static_after o (before + static_count (take at (map field_view fs)))) (slice_get-map field_view fs at ∙ ap (option_map field_view) e)
-    ∙ ap (λ xs. static_after (option_map field_view found) (before + static_count xs)) (take-map field_view at fs)
+    ap (λ o. static_after o (before + count_by is_static (take at (map field_view fs)))) (slice_get-map field_view fs at ∙ ap (option_map field_view) e)
+    ∙ ap (λ xs. static_after (option_map field_view found) (before + count_by is_static xs)) (take-map field_view at fs)
 
 there : (fs : List Field) (at : ℕ) (f : Field) → at < length fs → f ≡ get_or fs at f → slice_get fs at ≡ Some f
 there fs at f below e = slice_get-get_or fs at f below ∙ ap Some (sym e)
 
-pub static_found : (fs : List Field) (at : ℕ) (f : Field) (before n : ℕ) → at < length fs → f ≡ get_or fs at f → f.is_static ≡ true → n ≡ static_count (map field_view (take at fs)) →
-    Some (before + n) ≡ static_after (slice_get (map field_view fs) at) (before + static_count (take at (map field_view fs)))
+pub static_found : (fs : List Field) (at : ℕ) (f : Field) (before n : ℕ) → at < length fs → f ≡ get_or fs at f → f.is_static ≡ true → n ≡ count_by is_static (map field_view (take at fs)) →
+    Some (before + n) ≡ static_after (slice_get (map field_view fs) at) (before + count_by is_static (take at (map field_view fs)))
 static_found fs at f before n below e s h =
-    let all = before + static_count (map field_view (take at fs)) in
+    let all = before + count_by is_static (map field_view (take at fs)) in
     ap (λ x. Some (before + x)) h ∙ ap (λ b. if b then Some all else None) (sym s) ∙ sym (field_found fs at (Some f) before (there fs at f below e))
 
 pub none_found : (fs : List Field) (at : ℕ) (f : Field) (before : ℕ) → at < length fs → f ≡ get_or fs at f → f.is_static ≡ false →
-    None ≡ static_after (slice_get (map field_view fs) at) (before + static_count (take at (map field_view fs)))
+    None ≡ static_after (slice_get (map field_view fs) at) (before + count_by is_static (take at (map field_view fs)))
 none_found fs at f before below e s =
-    let all = before + static_count (map field_view (take at fs)) in
+    let all = before + count_by is_static (map field_view (take at fs)) in
     ap (λ b. if b then Some all else None) (sym s) ∙ sym (field_found fs at (Some f) before (there fs at f below e))
 
 pub classes_before : (cs : List Class) (at : ℕ) → statics_of (map class_view (take at cs)) ≡ statics_of (take at (map class_view cs))

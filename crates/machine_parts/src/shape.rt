@@ -14,11 +14,13 @@ fn class_in(shape: Option<Shape>) -> Option<ClassId>
     match shape {
         None => None,
         Some(shape) => match shape.tag {
-            Tag::Instance => match shape.ty.base {
-                Base::Class(class) => Some(class),
-                _ => None,
-            },
             Tag::Array => None,
+            Tag::Instance | Tag::Text | Tag::Builder | Tag::Row | Tag::Cap => {
+                match shape.ty.base {
+                    Base::Class(class) => Some(class),
+                    _ => None,
+                }
+            }
         },
     }
 }
@@ -43,8 +45,8 @@ fn type_in(shape: Option<Shape>) -> Option<Ty>
     match shape {
         None => None,
         Some(shape) => match shape.tag {
-            Tag::Instance => Some(shape.ty),
             Tag::Array => array_type(shape.ty),
+            Tag::Instance | Tag::Text | Tag::Builder | Tag::Row | Tag::Cap => Some(shape.ty),
         },
     }
 }
@@ -55,16 +57,16 @@ fn extent_in(shape: Option<Shape>) -> Option<Extent>
     match shape {
         None => None,
         Some(shape) => match shape.tag {
-            Tag::Instance => None,
             Tag::Array => Some(Extent {
                 element: shape.ty,
                 count: shape.len,
             }),
+            Tag::Instance | Tag::Text | Tag::Builder | Tag::Row | Tag::Cap => None,
         },
     }
 }
 
-/// The class of an instance.
+/// The class of an object that is no array.
 #[tactic(auto, using(crate::proofs::Shapes::class_seen))]
 pub fn class_of(heap: &Heap, object: ObjId) -> Option<ClassId>
     ensures { result ≡ the_class_of heap.now.world.objects object.0 }

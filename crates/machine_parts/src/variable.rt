@@ -1,10 +1,11 @@
 // Class variables and constant strings, by their places among what the heap has of them.
 
-ghost use Rattle.std.specs.Prelude.{◌≡◌, ◌<◌, ◌≤◌, ◌+◌, ◌^◌, IfOk, map, length, slice_get, take};
+ghost use Rattle.std.specs.Prelude.{◌≡◌, ◌<◌, ◌≤◌, ◌+◌, ◌^◌, IfOk, count_by, map, length, slice_get, take};
 ghost use Rattle.std.specs.Str.{bytes_eq};
 ghost use Rattle.je_base.specs.Names.{place_of as the_place_of};
 ghost use Rattle.je_core.specs.View.{field_view, class_view, program_view};
-ghost use Rattle.je_java.specs.Classes.{static_count as the_static_count, statics_of as the_statics_of, static_after, static_place as the_static_place, text_place as the_text_place};
+ghost use Rattle.je_classes.specs.Statics.{is_static, static_after, static_place as the_static_place};
+ghost use Rattle.je_java.specs.Classes.{statics_of as the_statics_of, text_place as the_text_place};
 ghost use Rattle.je_java.specs.Steps.{yields, read_static as the_read_static, write_static as the_write_static, read_text as the_read_text};
 ghost use Rattle.machine_parts.specs.Ways.{gives};
 ghost use Rattle.machine_parts.specs.way.Clauses.{IsValueOver};
@@ -15,7 +16,7 @@ use je_heap::Heap;
 
 // How many of some fields are static.
 fn static_count(fields: &[Field]) -> u64
-    ensures { result ≡ the_static_count (map field_view fields.now) }
+    ensures { result ≡ count_by is_static (map field_view fields.now) }
 {
     let mut count = 0;
     for field in fields {
@@ -42,7 +43,7 @@ fn statics_of(classes: &[Class]) -> u128
 fn static_in(fields: &[Field], at: usize, before: u128) -> Option<u128>
     requires { before < 2 ^ 127 }
     ensures { result ≡ static_after (slice_get (map field_view fields.now) at)
-        (before + the_static_count (take at (map field_view fields.now))) }
+        (before + count_by is_static (take at (map field_view fields.now))) }
 {
     match fields.get(at) {
         None => None,

@@ -6,7 +6,7 @@ use Rattle.je_core.specs.declared.types.ClassId.{ClassId}
 use Rattle.je_core.specs.declared.types.Ty.{Ty}
 use Rattle.je_heap.specs.declared.shape.Shape.{Shape}
 use Rattle.je_heap.specs.declared.shape.Tag.{Tag}
-use Rattle.je_heap.specs.declared.shape.Tag.TheVariants.{Instance, Array}
+use Rattle.je_heap.specs.declared.shape.Tag.TheVariants.{Array}
 use Rattle.je_java.specs.declared.array.Extent.{Extent}
 use Rattle.je_java.specs.World.{array_type}
 
@@ -15,24 +15,24 @@ class_in_base (Class class) = Some class
 class_in_base _ = None
 
 abbrev pub class_by_tag : Tag → Ty → Option ClassId
-class_by_tag Instance ty = class_in_base ty.base
 class_by_tag Array ty = None
+class_by_tag _ ty = class_in_base ty.base
 
 abbrev pub class_by : Option Shape → Option ClassId
 class_by None = None
 class_by (Some shape) = class_by_tag shape.tag shape.ty
 
 abbrev pub type_by_tag : Tag → Ty → Option Ty
-type_by_tag Instance ty = Some ty
 type_by_tag Array ty = array_type ty
+type_by_tag _ ty = Some ty
 
 abbrev pub type_by : Option Shape → Option Ty
 type_by None = None
 type_by (Some shape) = type_by_tag shape.tag shape.ty
 
 abbrev pub extent_by_tag : Tag → Shape → Option Extent
-extent_by_tag Instance shape = None
 extent_by_tag Array shape = Some (record { element = shape.ty; count = shape.len })
+extent_by_tag _ shape = None
 
 abbrev pub extent_by : Option Shape → Option Extent
 extent_by None = None

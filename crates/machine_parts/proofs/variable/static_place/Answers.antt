@@ -1,8 +1,9 @@
-use Rattle.std.proofs.Common.{◌<◌, ◌+◌, length, map, Some, sym, ap, ◌∙◌, arith}
-use Rattle.std.specs.Prelude.{take, slice_get}
+use Rattle.std.proofs.Common.{◌<◌, ◌+◌, length, map, sym, ap, ◌∙◌, arith}
+use Rattle.std.specs.Prelude.{count_by, take, slice_get}
 use Rattle.std.proofs.lemmas.List.{length-take-le}
 use Rattle.je_core.specs.View.{field_view, class_view, program_view}
-use Rattle.je_java.specs.Classes.{static_count, statics_of, static_after, static_place_in}
+use Rattle.je_classes.specs.Statics.{is_static, static_after, static_place_in}
+use Rattle.je_java.specs.Classes.{statics_of}
 use Rattle.machine_parts.proofs.Variables.{classes_before, class_within}
 use Rattle.machine_parts.proofs.variable.static_place.Goals as goal
 
@@ -20,8 +21,9 @@ returns-in-Some c =
     let field = c.args.field in
     let classes = c.args.program.now.classes.items in
     let before = c.statics_of-before.result in
+    let own = class_view c.in-Some.found.now in
     let counted = c.statics_of-before.ensures.value ∙ ap (λ cs. statics_of (map class_view (take c.args.class.0 cs))) c.deref.ensures.value ∙ classes_before classes c.args.class.0 in
     c.static_in.ensures
-    ∙ ap (λ fs. static_after (slice_get (map field_view fs) field) (before + static_count (take field (map field_view fs)))) c.deref-in-Some.ensures.value
-    ∙ ap (λ n. static_place_in n (Some (class_view c.in-Some.found.now)) field) counted
-    ∙ ap (λ o. static_place_in (statics_of (take c.args.class.0 (map class_view classes))) o field) c.in-Some.ensures
+    ∙ ap (λ fs. static_after (slice_get (map field_view fs) field) (before + count_by is_static (take field (map field_view fs)))) c.deref-in-Some.ensures.value
+    ∙ ap (λ n. static_after (slice_get own.fields field) (n + count_by is_static (take field own.fields))) counted
+    ∙ ap (λ o. static_place_in (program_view c.args.program.now) c.args.class o field) c.in-Some.ensures
