@@ -7,11 +7,7 @@ mod arithmetic;
 #[cfg(test)]
 mod core_trees;
 #[cfg(test)]
-mod heap;
-#[cfg(test)]
 mod lexing;
-#[cfg(test)]
-mod machine_calls;
 #[cfg(test)]
 mod one_files;
 #[cfg(test)]

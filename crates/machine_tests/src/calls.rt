@@ -1,0 +1,152 @@
+// Calls of small programs, with what Java answers and what the nodes cost.
+
+ghost use Rattle.std.specs.Prelude.{◌≤◌};
+
+use crate::nodes::{INT, ONLY};
+use crate::samples::{Sample, program_of};
+use je_core::{Memory, Obj, Program, Slots, Units, Value};
+use je_heap::Heap;
+use je_interp::{Call, Next, Receiver};
+use machine_moves::advance::advance;
+use machine_parts::frame::{Context, Control, Reply};
+use machine_parts::reply::nobody;
+use machine_parts::stack::Stack;
+use std::alloc::Global;
+use std::process::Abort;
+
+// How a call of the class's first method ends in a heap, and the units that it took.
+fn run_in(
+    alloc: Global,
+    heap: &mut Heap,
+    program: &Program,
+    arg: i32,
+    units: u64,
+) -> Result<(Option<Next>, u64), Memory>
+    requires { units ≤ 100000000 }
+{
+    let mut args = Slots::new(alloc);
+    args.push(Value::Int(arg))?;
+    let call = Call {
+        class: ONLY,
+        method: 0,
+        receiver: Receiver::None,
+        args,
+    };
+    let mut context = Context {
+        alloc,
+        frames: Stack::new(alloc),
+        env: nobody(alloc),
+        units,
+        begun: 0,
+    };
+    let mut control = Control::Start(call);
+    let mut reply = Reply::Result(INT);
+    for _ in 0..2_000_001 {
+        control = advance(&mut context, heap, program, &mut reply, control)?;
+        let next = match &control {
+            Control::Done(reply) => Some(Next::Done(*reply)),
+            Control::Thrown(exception) => Some(Next::Thrown(*exception)),
+            Control::Spent => Some(Next::Spent),
+            Control::Wrong => None,
+            _ => continue,
+        };
+        return Ok((next, units.wrapping_sub(context.units)));
+    }
+    Ok((Some(Next::More), units))
+}
+
+fn gave(value: i32) -> Option<Next> {
+    Some(Next::Done(Some(Value::Int(value))))
+}
+
+const SPENT: Option<Next> = Some(Next::Spent);
+
+// A call of a program with an int and so many units, how it ends, and how many units it takes.
+type Row = (Sample, i32, u64, Option<Next>, u64);
+
+// The calls of the rows in one heap, one after another.
+fn answer(rt: &impl Abort, alloc: Global, heap: &mut Heap, rows: &[Row]) -> Result<(), Memory> {
+    for (program, arg, units, want, cost) in rows {
+        let program = program_of(alloc, *program)?;
+        if *units <= 100000000 {
+            assert_eq!(rt;
+                run_in(alloc, heap, &program, *arg, *units)?,
+                (*want, *cost)
+            );
+        }
+    }
+    Ok(())
+}
+
+#[test]
+fn calls_answer_as_java_does(rt: HostRuntime) -> Result<(), Memory> {
+    let mut heap = Heap::new(rt.alloc(), 0)?;
+    let rows = [
+        (Sample::Counts, 41, 100, gave(42), 8),
+        // a sum wraps
+        (Sample::Counts, 2147483647, 8, gave(-2147483648), 8),
+        (Sample::Counts, 41, 7, SPENT, 7),
+        // Block, Return, CallVirtual, New, Local, Const, the slot, the body's 12, Const, Local, and the body again
+        (Sample::Builds, 7, 1000, gave(63), 33),
+        (Sample::Builds, 7, 6, SPENT, 6),
+        // Block, Return, CallVirtual, New, 2 Const, the slot, the body's 11, Const, Local, and the body again
+        (Sample::HandsOver, 7, 1000, gave(18), 31),
+        (Sample::Recurs, 7, 1000000, SPENT, 1000000),
+        // a program of one class has no NullPointerException
+        (Sample::ReadsNull, 7, 100, None, 4),
+    ];
+    answer(&rt, rt.alloc(), &mut heap, &rows)
+}
+
+#[test]
+fn arrays_answer_as_java_does(rt: HostRuntime) -> Result<(), Memory> {
+    let mut heap = Heap::new(rt.alloc(), 0)?;
+    let rows = [
+        (Sample::Fills, 3, 1000, gave(44), 24),
+        (Sample::Fills, 3, 7, SPENT, 5),
+        // a program of one class has no exceptions
+        (Sample::Fills, 1, 1000, None, 11),
+        (Sample::Fills, -1, 1000, None, 5),
+        // Block, Return, Length, NewArray, Local, Const, and the elements of three arrays
+        (Sample::Nests, 2, 1000, gave(2), 14),
+        (Sample::Chooses, 1, 1000, gave(8), 9),
+        (Sample::Chooses, 2, 1000, None, 9),
+    ];
+    answer(&rt, rt.alloc(), &mut heap, &rows)
+}
+
+fn set(heap: &mut Heap, at: u32, value: Value) -> Result<(), Memory> {
+    if at < heap.statics() {
+        heap.set_static(at, value)?;
+    }
+    Ok(())
+}
+
+// A heap with the class variable, and two strings in the place of the constant ones.
+fn heap_with_variables(alloc: Global) -> Result<Heap, Memory> {
+    let mut heap = Heap::new(alloc, 3)?;
+    let first = heap.alloc_obj(Obj::Text(Units::new(alloc)))?;
+    let second = heap.alloc_obj(Obj::Text(Units::new(alloc)))?;
+    set(&mut heap, 0, Value::Int(0))?;
+    set(&mut heap, 1, Value::Ref(first))?;
+    set(&mut heap, 2, Value::Ref(second))?;
+    Ok(heap)
+}
+
+#[test]
+fn class_variables_answer_as_java_does(rt: HostRuntime) -> Result<(), Memory> {
+    let mut heap = heap_with_variables(rt.alloc())?;
+    let rows = [
+        // Block, Do, Update, Local, Return and Update; a class variable outlives the call
+        (Sample::CountsOn, 5, 100, gave(5), 6),
+        (Sample::CountsOn, 5, 100, gave(11), 6),
+        (Sample::DropsNull, 9, 100, gave(9), 8),
+        (Sample::DropsNull, 9, 7, SPENT, 7),
+        // Block, Return, Choose, Binary, 2 Text, and a Const
+        (Sample::Compares(97), 9, 100, gave(1), 7),
+        (Sample::Compares(98), 9, 100, gave(2), 7),
+        // a string that the program hasn't
+        (Sample::Compares(99), 9, 100, None, 6),
+    ];
+    answer(&rt, rt.alloc(), &mut heap, &rows)
+}

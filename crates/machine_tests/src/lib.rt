@@ -1,0 +1,9 @@
+//! Tests of the machine: calls of small programs, how they end, and what they cost. With ample memory.
+#![tactic(auto)]
+
+#[cfg(test)]
+mod calls;
+#[cfg(test)]
+mod nodes;
+#[cfg(test)]
+mod samples;
