@@ -1,0 +1,4 @@
+pub mod Blanks
+pub mod Comparison
+pub mod Places
+mod Rows

@@ -1,0 +1,4 @@
+pub mod Changes
+pub mod Comparing
+pub mod Finding
+pub mod Parts

@@ -1,0 +1,4 @@
+mod Limits
+mod Negation
+mod Ones
+mod Rows

@@ -1,0 +1,4 @@
+pub mod Measures
+pub mod Reading
+pub mod Writing
+pub mod way
