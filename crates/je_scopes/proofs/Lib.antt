@@ -2,7 +2,7 @@ pub mod Either
 mod Growing
 mod Settling
 pub mod Rounds
-mod First
+pub mod First
 pub mod Ranges
 mod Walking
 pub mod Lists

@@ -1,6 +1,6 @@
 -- The graph of dependences, class by class.
-use Rattle.std.proofs.Common.{◌≡◌, ℕ, ◌<◌, ◌≤◌, List, [], length, Option, Some, refl, sym, ◌∙◌, ap, subst}
-use Rattle.std.specs.Prelude.{◌↔◌, Bool, true, false, slice_get, slice_index}
+use Rattle.std.proofs.Common.{◌≡◌, ℕ, ◌<◌, ◌≤◌, List, [], length, Option, refl, sym, ◌∙◌, ap, subst}
+use Rattle.std.specs.Prelude.{◌↔◌, Bool, true, false, slice_get}
 use Rattle.std.specs.List.{Contains, flat_map}
 use Rattle.std.proofs.lemmas.Option.{slice_get_past}
 use Rattle.je_ast.specs.Types.{TypeName}
@@ -39,9 +39,9 @@ module _ (p : Source) (g : Dependences) where
       let r = flat-from (λ t. named p (settled p) c header (parts_of t)) (heads_of p c) d (subst (λ (l : List ℕ). Contains l d) (a.right c) q) in
       subst (λ n. d < n) (sym a.whole) (named-are p whole (settled p) c header (parts_of r.from) d r.has)
 
-  -- what leads back depends on itself
-  pub back_depends : AreDependencesOf p g → (c : ℕ) (back : Bool) → (back ≡ true) ↔ Leads (depends_on g) c c → back ≡ depends p c c
-  back_depends a c back h = same back (depends p c c) (λ e. (depends_by_ways p (depends_on g) a.right c c).1 (h.0 e)) (λ e. h.1 ((depends_by_ways p (depends_on g) a.right c c).0 e))
+  -- what leads to a class depends on it
+  pub leading_depends : AreDependencesOf p g → (c d : ℕ) (leads : Bool) → (leads ≡ true) ↔ Leads (depends_on g) c d → leads ≡ depends p c d
+  leading_depends a c d leads h = same leads (depends p c d) (λ e. (depends_by_ways p (depends_on g) a.right c d).1 (h.0 e)) (λ e. h.1 ((depends_by_ways p (depends_on g) a.right c d).0 e))
     where
       same : (b d : Bool) → (b ≡ true → d ≡ true) → (d ≡ true → b ≡ true) → b ≡ d
       same true d f g = sym (f refl)

@@ -80,6 +80,21 @@ pub fn on_cycles(alloc: Global, sites: &Sites, graph: &Dependences) -> Result<Ve
     Ok(list)
 }
 
+/// Whether a class depends on another one; it looks at all on which it depends.
+pub fn depends(
+    alloc: Global,
+    sites: &Sites,
+    graph: &Dependences,
+    class: ClassId,
+    other: ClassId,
+) -> Result<bool, Memory>
+    requires library { HasLibrary (source_of sites.now) }
+    requires fits { AreDependencesOf (source_of sites.now) graph.now }
+    ensures { IfOk result (λ depends. depends ≡ specs.depends (source_of sites.now) class.0 other.0) }
+{
+    graph.leads(alloc, class, other)
+}
+
 impl Dependences {
     #[tactic(auto, unfolding(crate::specs::Graph::depends_on))]
     fn of(&self, class: ClassId) -> &[ClassId]
@@ -100,22 +115,22 @@ impl Dependences {
         if is_ranked(ranks, class) {
             return Ok(false);
         }
-        self.leads_back(alloc, class)
+        self.leads(alloc, class, class)
     }
 
-    // Whether a class leads back to itself: whether it is among the classes to which it leads.
-    fn leads_back(&self, alloc: Global, class: ClassId) -> Result<bool, Memory>
+    // Whether a class leads to another one: whether that is among all to which it leads.
+    fn leads(&self, alloc: Global, from: ClassId, to: ClassId) -> Result<bool, Memory>
         requires within { (c d : ℕ) → Contains (depends_on self.now c) d → d < length self.now.lists.items }
-        ensures { IfOk result (λ back. IsTrue back ↔ Leads (depends_on self.now) class.0 class.0) }
+        ensures { IfOk result (λ leads. IsTrue leads ↔ Leads (depends_on self.now) from.0 to.0) }
     {
         let mut met = IndexSet::new(alloc);
-        add_all(&mut met, self.of(class))?;
+        add_all(&mut met, self.of(from))?;
         let mut at = 0;
         while let Some(next) = met.get_index(at).copied() {
             add_all(&mut met, self.of(next))?;
             at += 1;
         }
-        Ok(met.contains(&class))
+        Ok(met.contains(&to))
     }
 
     // Of each class that leads to no cycle a number above 0, greater than those of all on which it directly depends; of the others

@@ -4,4 +4,4 @@
 mod cycles;
 mod order;
 
-pub use cycles::{Dependences, on_cycles, read_dependences};
+pub use cycles::{Dependences, depends, on_cycles, read_dependences};

@@ -15,7 +15,7 @@ use crate::header::{
     has_this_name, head, is_local, modifiers_of, name_of, parameter_place, parameters_of,
 };
 use crate::library::{full_name, text_of};
-use je_ast::{Identifier, TyName, TypeParam, Unit};
+use je_ast::{Identifier, Modifier, TyName, TypeParam, Unit};
 use je_base::{Memory, NameId, Names};
 use je_core::{ClassId, Sort};
 use name_walk::{ClassSite, Context, Spot, Written, has_private};
@@ -52,7 +52,7 @@ impl<'a> Sites<'a> {
     ghost use Rattle.std.specs.Prelude.{◌≡◌, ◌+◌, ◌<◌, ◌^◌, ℕ, IfOk, OnSome, Option, length, map, option_map, slice_get};
     ghost use Rattle.std.specs.Option.{ForSome};
     ghost use Rattle.je_ast.specs.Types.{parameter_view, type_view};
-    ghost use Rattle.je_scopes.specs.Headers.{site_at, name_in, parameters_in, is_private, top_of, within};
+    ghost use Rattle.je_scopes.specs.Headers.{site_at, name_in, modifiers_in, parameters_in, is_private, top_of, within};
     ghost use Rattle.je_scopes.specs.Looks.{found};
     ghost use Rattle.je_scopes.specs.Scope.{at_top, declared, first_named, place_of_parameter};
     ghost use Rattle.je_scopes.specs.Source.{implicit_class, library_class, text_in};
@@ -210,6 +210,13 @@ impl<'a> Sites<'a> {
         } else {
             class
         }
+    }
+
+    /// The modifiers of a class (JLS 8.1.1, 9.1.1); none, of one of the library or behind `new`.
+    pub fn modifiers(&self, class: ClassId) -> &'a [Modifier]
+        ensures { result.now ≡ modifiers_in (site_at (source_of self.now).sites class.0).written }
+    {
+        modifiers_of(self.class(class).written)
     }
 
     /// The type at a place among those that a class's header names (JLS 8.1.4, 8.1.5, 9.1.3, 15.9.5).

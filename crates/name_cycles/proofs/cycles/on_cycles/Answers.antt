@@ -1,4 +1,4 @@
-use Rattle.std.proofs.Common.{◌≡◌, ◌<◌, ℕ, List, length, Some, sym, subst, ap, ◌∙◌, arith}
+use Rattle.std.proofs.Common.{◌≡◌, ℕ, List, length, Some, sym, subst, ap, ◌∙◌, arith}
 use Rattle.std.specs.Prelude.{slice_get}
 use Rattle.std.proofs.lemmas.Grind.{common_steps}
 use Rattle.je_scopes.specs.Settled as specs
@@ -6,7 +6,7 @@ use Rattle.scope_laws.specs.Ways.{IsGrounding}
 use Rattle.name_sites.specs.View.{source_of}
 use Rattle.name_lookup.proofs.Tables.{push-each}
 use Rattle.name_cycles.specs.Graph.{depends_on}
-use Rattle.name_cycles.proofs.Graphs.{back_depends, leads_within}
+use Rattle.name_cycles.proofs.Graphs.{leading_depends, leads_within}
 use Rattle.name_cycles.proofs.cycles.on_cycles.Goals as goal
 
 pub is_on_cycle-requires : goal.is_on_cycle-requires
@@ -19,7 +19,7 @@ pub loop-at-preserved : goal.loop-at-preserved
 loop-at-preserved c = record {
   whole = grind (arith, common_steps, c.in_ok-push.ensures.items, c.loop-at.invariant.whole);
   each = λ d l. ap (λ ls. slice_get ls d) c.in_ok-push.ensures.items ∙ push-each (λ n o. o ≡ Some (specs.depends (source_of c.args.sites.now) n n)) c.loop-at.list.items _ c.loop-at.at c.loop-at.invariant.whole c.loop-at.invariant.each
-      (ap Some (back_depends (source_of c.args.sites.now) c.args.graph.now c.requires.fits c.loop-at.at _ c.in_ok-is_on_cycle.ensures)) d l;
+      (ap Some (leading_depends (source_of c.args.sites.now) c.args.graph.now c.requires.fits c.loop-at.at c.loop-at.at _ c.in_ok-is_on_cycle.ensures)) d l;
 }
 
 pub returns : goal.returns
