@@ -1,0 +1,4 @@
+mod Any
+mod Imports
+mod OwnName
+mod Rounds

@@ -1,0 +1,6 @@
+//! The faults of the methods and constructors of a class.
+#![tactic(auto)]
+
+mod methods;
+
+pub use methods::judge_methods;

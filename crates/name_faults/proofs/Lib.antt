@@ -1,0 +1,4 @@
+pub mod Covers
+pub mod Earliest
+pub mod EarlierImports
+pub mod Left
