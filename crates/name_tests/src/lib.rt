@@ -2,4 +2,8 @@
 #![tactic(auto)]
 
 #[cfg(test)]
+mod declaring;
+#[cfg(test)]
+mod texts;
+#[cfg(test)]
 mod walking;

@@ -1,32 +1,9 @@
 // The classes of two units, in reading order behind the library's, and where each is written (JLS 8.1.3, 8.5, 14.3, 15.9.5).
 
-ghost use Rattle.std.specs.Prelude.{IfSome};
-ghost use Rattle.parse_expr.specs.Answers.{IsFile};
-
-use je_ast::Unit;
+use crate::texts::unit_of;
 use je_core::Sort;
-use je_lexer::{Tokens, lex, tokens_are_whole};
 use name_walk::{ClassSite, Context, walk};
-use parse_decl::unit;
-use std::alloc::Global;
 use std::test::Fail;
-
-// The tokens of a text of at most 1,048,576 bytes; None for a longer one, and where it has none.
-fn tokens_of(alloc: Global, text: &str) -> Option<Tokens>
-    ensures { IfSome result (λ tokens. IsFile tokens) }
-{
-    tokens_are_whole();
-    let bytes = text.as_bytes();
-    if bytes.len() <= 1048576 {
-        return lex(alloc, 0, bytes).ok();
-    }
-    None
-}
-
-fn unit_of(alloc: Global, text: &str) -> Option<Unit> {
-    let tokens = tokens_of(alloc, text)?;
-    unit(alloc, &tokens).ok()
-}
 
 // The sort of a class, its unit, the class round it, the local class that is in scope there, and its context.
 type Row = (Sort, usize, Option<usize>, Option<usize>, Context);

@@ -1,0 +1,4 @@
+pub mod Words
+pub mod Declarations
+pub mod View
+pub mod way
