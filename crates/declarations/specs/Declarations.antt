@@ -73,9 +73,9 @@ abbrev pub in_interface : Source → Option ℕ → Bool
 in_interface p None = false
 in_interface p (Some d) = is_interface_sort (site_at p.sites d).sort
 
--- the access of a member class of an interface is public (JLS 9.5)
+-- a member class of an interface is public (JLS 9.5); a class in an initializer there is no member
 abbrev pub class_access : Source → Site → Access
-class_access p s = access_of (in_interface p (within s)) (modifiers_in s.written)
+class_access p s = access_of (not (is_local_sort s.sort) && in_interface p (within s)) (modifiers_in s.written)
 
 -- what a type means that is written in a part of a class
 abbrev pub type_at : Source → ℕ → Part → TypeName → SourceType

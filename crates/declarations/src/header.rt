@@ -89,7 +89,8 @@ fn class_access(program: &Program, class: ClassId) -> Access
     ensures { result ≡ declared.class_access (source_in program.now) (site_at (source_in program.now).sites class.0) }
 {
     let modifiers = program.sites.modifiers(class);
-    access_of(is_in_interface(program, class), modifiers)
+    let is_member = !is_local(program.sites.sort(class));
+    access_of(is_member && is_in_interface(program, class), modifiers)
 }
 
 // A type in the header of a class.
