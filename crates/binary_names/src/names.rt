@@ -22,8 +22,10 @@ use std::alloc::Global;
 /// the top (JLS 13.1).
 pub fn repeated_names(alloc: Global, sites: &Sites) -> Result<Vec<bool>, Memory>
     ensures count { IfOk result (λ flags. length flags.items ≡ length (source_of sites.now).sites) }
-    ensures flags { IfOk result (λ flags. (c : ℕ) → c < length (source_of sites.now).sites → slice_get flags.items c ≡
-        Some (list_any (λ d. bytes_eq (binary_name (source_of sites.now) d) (binary_name (source_of sites.now) c)) (below c))) }
+    ensures flags { IfOk result
+        (λ flags. (c : ℕ) → c < length (source_of sites.now).sites → slice_get flags.items c ≡
+        Some (list_any (λ d. bytes_eq (binary_name (source_of sites.now) d)
+        (binary_name (source_of sites.now) c)) (below c))) }
 {
     let numbers = numbers(alloc, sites)?;
     let mut texts = Texts::new(alloc);
@@ -47,7 +49,8 @@ fn add_name(
     requires named { AreNamed (source_of sites.now) texts.old names.now }
     requires number { number ≡ number_in (source_of sites.now) class.0 }
     ensures stays { OnOk result (Stays texts.old texts.new) }
-    ensures text { IfOk result (λ n. IsText texts.new n (binary_name (source_of sites.now) class.0)) }
+    ensures text { IfOk result
+        (λ n. IsText texts.new n (binary_name (source_of sites.now) class.0)) }
 {
     let simple = simple_name(sites, class);
     let Some(round) = sites.outside(class).within else {

@@ -15,7 +15,8 @@ use std::alloc::Global;
 /// including this one; 0 for every other class (JLS 13.1).
 pub fn numbers(alloc: Global, sites: &Sites) -> Result<Vec<usize>, Memory>
     ensures count { IfOk result (λ ns. length ns.items ≡ length (source_of sites.now).sites) }
-    ensures numbers { IfOk result (λ ns. (c : ℕ) → c < length (source_of sites.now).sites → slice_index ns.items c ≡
+    ensures numbers { IfOk result
+        (λ ns. (c : ℕ) → c < length (source_of sites.now).sites → slice_index ns.items c ≡
         number_in (source_of sites.now) c) }
 {
     let mut counts = Counts::new(alloc);

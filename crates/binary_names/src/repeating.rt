@@ -10,7 +10,8 @@ use std::alloc::Global;
 /// Of each number whether it stands earlier in the list.
 pub fn repeats(alloc: Global, numbers: &[usize]) -> Result<Vec<bool>, Memory>
     ensures count { IfOk result (λ flags. length flags.items ≡ length numbers.now) }
-    ensures flags { IfOk result (λ flags. (c : ℕ) → c < length numbers.now → slice_get flags.items c ≡
+    ensures flags { IfOk result
+        (λ flags. (c : ℕ) → c < length numbers.now → slice_get flags.items c ≡
         Some (list_any (nat_eq (slice_index numbers.now c)) (take c numbers.now))) }
 {
     let mut seen = IndexSet::new(alloc);

@@ -34,7 +34,8 @@ impl Texts {
     // The number of a text with one byte more.
     fn longer(&mut self, text: usize, byte: u8) -> Result<usize, Memory>
         ensures stays { OnOk result (Stays self.old self.new) }
-        ensures text { IfOk result (λ n. (t : List ℕ) → IsText self.old text t → IsText self.new n (t ++ byte ∷ [])) }
+        ensures text { IfOk result
+            (λ n. (t : List ℕ) → IsText self.old text t → IsText self.new n (t ++ byte ∷ [])) }
     {
         let (at, _) = self.steps.insert_full((text, byte))?;
         let count = self.steps.len();
@@ -45,7 +46,8 @@ impl Texts {
     /// The number of a text with further bytes.
     pub fn extended(&mut self, text: usize, bytes: &[u8]) -> Result<usize, Memory>
         ensures stays { OnOk result (Stays self.old self.new) }
-        ensures text { IfOk result (λ n. (t : List ℕ) → IsText self.old text t → IsText self.new n (t ++ bytes.now)) }
+        ensures text { IfOk result
+            (λ n. (t : List ℕ) → IsText self.old text t → IsText self.new n (t ++ bytes.now)) }
     {
         let mut end = text;
         for byte in bytes {

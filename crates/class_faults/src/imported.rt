@@ -19,7 +19,8 @@ use std::alloc::Global;
 /// The simple names of all classes that the units of a program import.
 pub fn imported_names(alloc: Global, sites: &Sites, units: &[Unit]) -> Result<Met, Memory>
     requires { (source_of sites.now).imports ≡ map imports_of (map unit_view units.now) }
-    ensures { IfOk result (λ met. (x : NameId) → is_met met x ≡ is_imported (source_of sites.now) (Some x)) }
+    ensures { IfOk result
+        (λ met. (x : NameId) → is_met met x ≡ is_imported (source_of sites.now) (Some x)) }
 {
     let mut met = Met::none(alloc);
     for unit in units {
@@ -31,7 +32,8 @@ pub fn imported_names(alloc: Global, sites: &Sites, units: &[Unit]) -> Result<Me
 // Meets the simple names of the classes that a unit imports.
 fn meet_imports(alloc: Global, sites: &Sites, imports: &[Name], met: &mut Met) -> Result<(), Memory>
     ensures { OnOk result ((x : NameId) → is_met met.new x ≡ (is_met met.old x
-        || list_any (imports_name (source_of sites.now).texts (Some x)) (map name_view imports.now))) }
+        || list_any (imports_name (source_of sites.now).texts (Some x))
+        (map name_view imports.now))) }
 {
     for import in imports {
         meet_import(alloc, sites, import, met)?;

@@ -63,7 +63,8 @@ ghost use Rattle.std.specs.List.{list_any};
 ghost use Rattle.je_scopes.specs.Headers.{has_name, name_in};
 
 fn is_round(sites: &Sites, class: ClassId, name: NameId) -> bool
-    ensures { result ≡ list_any (λ d. has_name (name_in (site_at (source_of sites.now).sites d).written) name)
+    ensures { result ≡ list_any
+        (λ d. has_name (name_in (site_at (source_of sites.now).sites d).written) name)
         (site_at (source_of sites.now).sites class.0).spot.round }
 {
     let mut next = sites.outside(class).within;
@@ -78,7 +79,8 @@ fn is_round(sites: &Sites, class: ClassId, name: NameId) -> bool
 
 // Whether a class has a name.
 fn has_this_name(sites: &Sites, class: ClassId, name: NameId) -> bool
-    ensures { result ≡ has_name (name_in (site_at (source_of sites.now).sites class.0).written) name }
+    ensures { result ≡ has_name
+        (name_in (site_at (source_of sites.now).sites class.0).written) name }
 {
     match sites.name(class) {
         Some(own) => own.0 == name.0,
@@ -89,7 +91,8 @@ fn has_this_name(sites: &Sites, class: ClassId, name: NameId) -> bool
 /// Whether it is a member class of a generic class and not static.
 pub fn is_inner_of_generic(sites: &Sites, class: ClassId) -> bool
     ensures { let site = site_at (source_of sites.now).sites class.0 in
-        result ≡ (not (is_local_sort site.sort) && is_generic_class (source_of sites.now) (within site)
+        result ≡ (not (is_local_sort site.sort)
+        && is_generic_class (source_of sites.now) (within site)
         && not (is_static_context site.spot.context)) }
 {
     if is_local(sites.sort(class)) {

@@ -28,8 +28,10 @@ pub struct TakenNames<'a> {
     imported: Met,
     ghost whole: { length repeated.items ≡ length (source_of sites.now).sites },
     ghost repeats: { (c : ℕ) → c < length (source_of sites.now).sites → slice_get repeated.items c ≡
-        Some (list_any (λ d. bytes_eq (binary_name (source_of sites.now) d) (binary_name (source_of sites.now) c)) (below c)) },
-    ghost imports: { (x : NameId) → is_met imported x ≡ is_imported (source_of sites.now) (Some x) },
+        Some (list_any (λ d. bytes_eq (binary_name (source_of sites.now) d)
+        (binary_name (source_of sites.now) c)) (below c)) },
+    ghost imports: { (x : NameId) → is_met imported x ≡
+        is_imported (source_of sites.now) (Some x) },
 }
 
 impl<'a> TakenNames<'a> {
@@ -62,7 +64,8 @@ impl<'a> TakenNames<'a> {
     /// (JLS 7.6, 8.1, 8.5, 13.1).
     pub fn judge_class_name(&self, class: ClassId, faults: &mut Faults)
         requires { class.0 < length (source_of self.now.sites.now).sites }
-        ensures { Adds faults.old faults.new (of_class_name (source_of self.now.sites.now) class.0) }
+        ensures { Adds faults.old faults.new
+            (of_class_name (source_of self.now.sites.now) class.0) }
     {
         let span = name_span(self.sites.written(class));
         faults.add_where(self.is_repeated(class), FaultKind::Twice, span);
@@ -79,7 +82,8 @@ impl<'a> TakenNames<'a> {
     fn is_repeated(&self, class: ClassId) -> bool
         requires { class.0 < length (source_of self.now.sites.now).sites }
         ensures { let p = source_of self.now.sites.now in
-            result ≡ list_any (λ d. bytes_eq (binary_name p d) (binary_name p class.0)) (below class.0) }
+            result ≡ list_any (λ d. bytes_eq (binary_name p d) (binary_name p class.0))
+            (below class.0) }
     {
         self.repeated[class.0 as usize]
     }
@@ -91,7 +95,8 @@ impl<'a> TakenNames<'a> {
     // Whether it stands at the top, and some unit imports a class of its name.
     fn is_import_at_top(&self, class: ClassId) -> bool
         ensures { let site = site_at (source_of self.now.sites.now).sites class.0 in
-            result ≡ (is_top (within site) && is_imported (source_of self.now.sites.now) (name_in site.written)) }
+            result ≡ (is_top (within site)
+            && is_imported (source_of self.now.sites.now) (name_in site.written)) }
     {
         self.sites.outside(class).within.is_none() && self.is_imported(self.sites.name(class))
     }

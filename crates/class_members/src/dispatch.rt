@@ -96,7 +96,8 @@ pub fn implemented(program: &Program, class: ClassId, method: &Method) -> Option
 
 // The method that some bridges name for one.
 fn bridged_in(bridges: &[Bridge], class: ClassId, at: usize) -> Option<(ClassId, usize)>
-    ensures { option_map member_of result ≡ the_bridged_in bridges.now (record { class = class; at = at }) }
+    ensures { option_map member_of result ≡
+        the_bridged_in bridges.now (record { class = class; at = at }) }
 {
     for bridge in bridges {
         if same_class(bridge.method.0, class) && bridge.method.1 as usize == at {
@@ -136,7 +137,8 @@ fn implemented_or_private(
     class: ClassId,
     at: usize,
 ) -> Option<(ClassId, usize)>
-    ensures { option_map member_of result ≡ the_implemented_or_private (program_view program.now) own
+    ensures { option_map member_of result ≡
+        the_implemented_or_private (program_view program.now) own
         (record { class = class; at = at })
         (method_of (program_view program.now) (record { class = class; at = at })) }
 {

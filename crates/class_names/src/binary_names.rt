@@ -20,7 +20,8 @@ pub fn binary_name(
     names: &Names,
     class: ClassId,
 ) -> Result<Vec<u8>, Memory>
-    ensures { IfOk result (λ name. name.items ≡ the_binary_name (program_view program.now) names.now class) }
+    ensures { IfOk result
+        (λ name. name.items ≡ the_binary_name (program_view program.now) names.now class) }
 {
     let mut round = round_of(alloc, program, class)?;
     let mut name = Vec::new(alloc);
@@ -67,7 +68,9 @@ fn add_simple(
     names: &Names,
     class: ClassId,
 ) -> Result<(), Memory>
-    ensures { OnOk result (name.new.items ≡ name.old.items ++ simple_text (program_view program.now) names.now class) }
+    ensures { OnOk result
+        (name.new.items ≡ name.old.items
+        ++ simple_text (program_view program.now) names.now class) }
 {
     let Some(class) = program.class(class) else {
         return Ok(());
@@ -81,7 +84,8 @@ fn add_simple(
 
 // The number of a local or anonymous class, behind what stands there.
 fn add_number(name: &mut Vec<u8>, program: &Program, class: ClassId) -> Result<(), Memory>
-    ensures { OnOk result (name.new.items ≡ name.old.items ++ number_text (program_view program.now) class) }
+    ensures { OnOk result
+        (name.new.items ≡ name.old.items ++ number_text (program_view program.now) class) }
 {
     let Some(class) = program.class(class) else {
         return Ok(());

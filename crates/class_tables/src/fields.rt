@@ -111,7 +111,8 @@ fn static_count(fields: &[Field]) -> usize
 
 // The fields of a class.
 fn fields_in(program: &Program, class: ClassId) -> &[Field]
-    ensures { map field_view result.now ≡ fields_at (slice_get (program_view program.now).classes class.0) }
+    ensures { map field_view result.now ≡
+        fields_at (slice_get (program_view program.now).classes class.0) }
 {
     match program.class(class) {
         None => &[],

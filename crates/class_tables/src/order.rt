@@ -75,9 +75,11 @@ impl Order {
 
     // Places a class behind the others.
     fn place(&mut self, class: ClassId) -> Result<(), Memory>
-        ensures classes { OnOk result (self.new.classes.items ≡ self.old.classes.items ++ class ∷ []) }
+        ensures classes { OnOk result
+            (self.new.classes.items ≡ self.old.classes.items ++ class ∷ []) }
         ensures count { length self.new.placed.items ≡ length self.old.placed.items }
-        ensures placed { OnOk result ((c : TheClassId) → slice_get self.new.placed.items c.0 ≡ Some true →
+        ensures placed { OnOk result
+            ((c : TheClassId) → slice_get self.new.placed.items c.0 ≡ Some true →
             (slice_get self.old.placed.items c.0 ≡ Some true) ⊎ (c ≡ class)) }
     {
         let at = class.0 as usize;
@@ -100,7 +102,8 @@ fn descend(
     requires path { IsPath (program_view program.now) order.old class path.items }
     ensures order { OnOk result (IsOrder (program_view program.now) order.new) }
     ensures there { OnOk result (IsThere (program_view program.now) order.new.classes.items class) }
-    ensures others { OnOk result ((c : TheClassId) → In order.old.classes.items c → In order.new.classes.items c) }
+    ensures others { OnOk result
+        ((c : TheClassId) → In order.old.classes.items c → In order.new.classes.items c) }
 {
     while let Some(next) = path.pop() {
         order.place(next)?;

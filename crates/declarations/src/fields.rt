@@ -27,7 +27,8 @@ use type_faults::Program;
 /// The fields of a class in order, an enum's constants among them (JLS 8.3, 8.9, 9.3).
 pub fn fields_of(program: &Program, class: ClassId) -> Result<Vec<FieldDecl>, Memory>
     ensures { IfOk result (λ fs. map field_shown fs.items ≡
-        map (declared_field (source_in program.now) class.0) (the_fields_of (source_in program.now) class.0)) }
+        map (declared_field (source_in program.now) class.0)
+        (the_fields_of (source_in program.now) class.0)) }
 {
     let written = program.sites.written(class);
     let mut fields = Vec::new(program.alloc);
@@ -43,7 +44,8 @@ fn push_constants(
     fields: &mut Vec<FieldDecl>,
 ) -> Result<(), Memory>
     ensures { OnOk result ((p : Source) → map field_shown fields.new.items ≡
-        map field_shown fields.old.items ++ map (declared_field p class.0) (map constant_site constants.now)) }
+        map field_shown fields.old.items
+        ++ map (declared_field p class.0) (map constant_site constants.now)) }
 {
     for constant in constants {
         fields.push(constant_decl(class, *constant))?;
@@ -73,7 +75,8 @@ fn push_fields(
     fields: &mut Vec<FieldDecl>,
 ) -> Result<(), Memory>
     ensures { OnOk result (map field_shown fields.new.items ≡ map field_shown fields.old.items
-        ++ map (declared_field (source_in program.now) class.0) (field_sites (member_views_of members.now))) }
+        ++ map (declared_field (source_in program.now) class.0)
+        (field_sites (member_views_of members.now))) }
 {
     for member in members {
         push_member(program, class, member, fields)?;
@@ -89,9 +92,11 @@ fn push_member(
     fields: &mut Vec<FieldDecl>,
 ) -> Result<(), Memory>
     ensures { OnOk result ((rest : List FieldSite) →
-        map field_shown fields.new.items ++ map (declared_field (source_in program.now) class.0) rest ≡
+        map field_shown fields.new.items
+        ++ map (declared_field (source_in program.now) class.0) rest ≡
         map field_shown fields.old.items
-        ++ map (declared_field (source_in program.now) class.0) (fields_before (member_view member.now) rest)) }
+        ++ map (declared_field (source_in program.now) class.0)
+        (fields_before (member_view member.now) rest)) }
 {
     push_member_here(program, class, member, fields)
 }
@@ -103,9 +108,11 @@ fn push_member_here(
     fields: &mut Vec<FieldDecl>,
 ) -> Result<(), Memory>
     ensures { OnOk result ((rest : List FieldSite) →
-        map field_shown fields.new.items ++ map (declared_field (source_in program.now) class.0) rest ≡
+        map field_shown fields.new.items
+        ++ map (declared_field (source_in program.now) class.0) rest ≡
         map field_shown fields.old.items
-        ++ map (declared_field (source_in program.now) class.0) (fields_before (member_node_view member.now) rest)) }
+        ++ map (declared_field (source_in program.now) class.0)
+        (fields_before (member_node_view member.now) rest)) }
 {
     match member {
         Member::Field {
@@ -147,12 +154,13 @@ fn field_decl(
     ty: &TyName,
     var: &Var,
 ) -> Result<FieldDecl, Memory>
-    ensures { IfOk result (λ f. field_shown f ≡ declared_field (source_in program.now) class.0 (record {
-      name = var.now.name;
-      modifiers = modifiers.now;
-      written = Some (type_view ty.now);
-      dims = var.now.dims;
-    })) }
+    ensures { IfOk result
+        (λ f. field_shown f ≡ declared_field (source_in program.now) class.0 (record {
+          name = var.now.name;
+          modifiers = modifiers.now;
+          written = Some (type_view ty.now);
+          dims = var.now.dims;
+        })) }
 {
     let in_interface = is_in_interface(program, class);
     let is_static = in_interface || has_static(modifiers);
@@ -173,7 +181,8 @@ fn field_decl(
 // A type at a place, and so many dimensions behind a name, 255 in all at most.
 fn field_type(program: &Program, place: Place, ty: &TyName, dims: usize) -> Result<SrcTy, Memory>
     ensures { IfOk result (λ t. shown t ≡ in_limit (with_dims
-        (the_source_type (source_in program.now) (settled (source_in program.now)) place.class.0 (part_view place.part)
+        (the_source_type (source_in program.now) (settled (source_in program.now)) place.class.0
+        (part_view place.part)
         (type_view ty.now)) dims)) }
 {
     let declared = source_type(program.headers, program.alloc, program.sites, place, ty)?;

@@ -26,7 +26,8 @@ use type_faults::Program;
 /// What the class of a number declares; nothing, for a class of the library (JLS 8, 9).
 #[tactic(auto, unfolding(crate::specs::Declarations::declared_class))]
 pub fn declaration(program: &Program, class: ClassId) -> Result<ClassDecl, Memory>
-    ensures { IfOk result (λ d. class_shown d ≡ declared.declared_class (source_in program.now) class.0) }
+    ensures { IfOk result
+        (λ d. class_shown d ≡ declared.declared_class (source_in program.now) class.0) }
 {
     Ok(ClassDecl {
         kind: kind_of(program, class),
@@ -86,7 +87,8 @@ fn is_in_interface(program: &Program, class: ClassId) -> bool
 }
 
 fn class_access(program: &Program, class: ClassId) -> Access
-    ensures { result ≡ declared.class_access (source_in program.now) (site_at (source_in program.now).sites class.0) }
+    ensures { result ≡ declared.class_access (source_in program.now)
+        (site_at (source_in program.now).sites class.0) }
 {
     let modifiers = program.sites.modifiers(class);
     let is_member = !is_local(program.sites.sort(class));
@@ -95,7 +97,9 @@ fn class_access(program: &Program, class: ClassId) -> Access
 
 // A type in the header of a class.
 fn header_type(program: &Program, class: ClassId, ty: &TyName) -> Result<SrcTy, Memory>
-    ensures { IfOk result (λ t. shown t ≡ declared.type_at (source_in program.now) class.0 header (type_view ty.now)) }
+    ensures { IfOk result
+        (λ t. shown t ≡ declared.type_at (source_in program.now) class.0 header
+        (type_view ty.now)) }
 {
     let place = Place {
         class,
@@ -125,7 +129,8 @@ fn parameters_of(program: &Program, class: ClassId) -> Result<Vec<ParameterDecl>
 
 fn heads_of(program: &Program, class: ClassId) -> Result<Vec<SrcTy>, Memory>
     ensures { IfOk result (λ ts. map shown ts.items ≡
-        map (declared.type_at (source_in program.now) class.0 header) (heads_of (source_in program.now) class.0)) }
+        map (declared.type_at (source_in program.now) class.0 header)
+        (heads_of (source_in program.now) class.0)) }
 {
     let mut heads = Vec::new(program.alloc);
     let mut at = 0;

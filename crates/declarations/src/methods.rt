@@ -39,7 +39,8 @@ struct MethodTree<'a> {
 /// The methods and constructors of a class in order (JLS 8.4, 8.8, 9.4).
 pub fn methods_of(program: &Program, class: ClassId) -> Result<Vec<MethodDecl>, Memory>
     ensures { IfOk result (λ ms. map method_shown ms.items ≡
-        map (declared.declared_method (source_in program.now) class.0) (the_methods_of (source_in program.now) class.0)) }
+        map (declared.declared_method (source_in program.now) class.0)
+        (the_methods_of (source_in program.now) class.0)) }
 {
     let mut methods = Vec::new(program.alloc);
     for member in members_of(program.sites.written(class)) {
@@ -56,9 +57,11 @@ fn push_member(
     methods: &mut Vec<MethodDecl>,
 ) -> Result<(), Memory>
     ensures { OnOk result ((rest : List MethodSite) →
-        map method_shown methods.new.items ++ map (declared.declared_method (source_in program.now) class.0) rest ≡
+        map method_shown methods.new.items
+        ++ map (declared.declared_method (source_in program.now) class.0) rest ≡
         map method_shown methods.old.items
-        ++ map (declared.declared_method (source_in program.now) class.0) (methods_before (member_view member.now) rest)) }
+        ++ map (declared.declared_method (source_in program.now) class.0)
+        (methods_before (member_view member.now) rest)) }
 {
     push_member_here(program, class, member, methods)
 }
@@ -70,9 +73,11 @@ fn push_member_here(
     methods: &mut Vec<MethodDecl>,
 ) -> Result<(), Memory>
     ensures { OnOk result ((rest : List MethodSite) →
-        map method_shown methods.new.items ++ map (declared.declared_method (source_in program.now) class.0) rest ≡
+        map method_shown methods.new.items
+        ++ map (declared.declared_method (source_in program.now) class.0) rest ≡
         map method_shown methods.old.items
-        ++ map (declared.declared_method (source_in program.now) class.0) (methods_before (member_node_view member.now) rest)) }
+        ++ map (declared.declared_method (source_in program.now) class.0)
+        (methods_before (member_node_view member.now) rest)) }
 {
     match member {
         Member::Method {
@@ -137,7 +142,8 @@ fn method_decl(program: &Program, class: ClassId, tree: MethodTree) -> Result<Me
 // The types of parameters.
 fn parameters_at(program: &Program, place: Place, formals: &[Formal]) -> Result<Vec<SrcTy>, Memory>
     ensures { IfOk result (λ ts. map shown ts.items ≡
-        map (declared.parameter_type (source_in program.now) place.class.0 (part_view place.part)) (map formal_view formals.now)) }
+        map (declared.parameter_type (source_in program.now) place.class.0 (part_view place.part))
+        (map formal_view formals.now)) }
 {
     parameter_types(
         program.headers,
@@ -175,7 +181,8 @@ fn result_type(program: &Program, place: Place, written: Option<&TyName>) -> Res
 
 fn thrown_types(program: &Program, place: Place, names: &[Name]) -> Result<Vec<SrcTy>, Memory>
     ensures { IfOk result (λ ts. map shown ts.items ≡
-        map (declared.thrown_type (source_in program.now) place.class.0 (part_view place.part)) (map name_view names.now)) }
+        map (declared.thrown_type (source_in program.now) place.class.0 (part_view place.part))
+        (map name_view names.now)) }
 {
     let mut types = Vec::new(program.alloc);
     for name in names {
@@ -202,7 +209,8 @@ fn thrown_type(program: &Program, place: Place, name: &Name) -> Result<SrcTy, Me
 
 // What a name without type arguments is a type of, by what it means.
 fn named(program: &Program, look: Look) -> SrcBase
-    ensures { base_shown result 0 ≡ type_for (source_in program.now) (look_view look) 0 no_source_types 0 }
+    ensures { base_shown result 0 ≡
+        type_for (source_in program.now) (look_view look) 0 no_source_types 0 }
 {
     match look {
         Look::Class(class) => class_named(program, class),
@@ -214,7 +222,8 @@ fn named(program: &Program, look: Look) -> SrcBase
 }
 
 fn class_named(program: &Program, class: ClassId) -> SrcBase
-    ensures { base_shown result 0 ≡ type_for (source_in program.now) (a_class class.0) 0 no_source_types 0 }
+    ensures { base_shown result 0 ≡
+        type_for (source_in program.now) (a_class class.0) 0 no_source_types 0 }
 {
     if arity(program.sites, class) == 0 {
         SrcBase::Plain(Base::Class(class))

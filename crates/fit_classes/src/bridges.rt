@@ -46,7 +46,8 @@ fn stand_above(
     id: ClassId,
     bridge: &Bridge,
 ) -> Result<bool, Memory>
-    ensures { IfOk result (λ above. above ≡ (the_is_below (program_view program.now) id bridge.now.method.0 &&
+    ensures { IfOk result
+        (λ above. above ≡ (the_is_below (program_view program.now) id bridge.now.method.0 &&
         the_is_below (program_view program.now) id bridge.now.by.0)) }
 {
     if !is_below(alloc, program, id, bridge.method.0)? {
@@ -123,7 +124,8 @@ fn same_method(a: &Bridge, b: &Bridge) -> bool
 
 // Whether the bridges at two places are one, or begin with two methods.
 fn apart_at(bridges: &[Bridge], i: usize, j: usize) -> bool
-    ensures { result ≡ implies (begin_alike (slice_get bridges.now i) (slice_get bridges.now j)) (nat_eq i j) }
+    ensures { result ≡ implies (begin_alike (slice_get bridges.now i) (slice_get bridges.now j))
+        (nat_eq i j) }
 {
     match bridges.get(i) {
         None => true,
@@ -138,7 +140,8 @@ fn apart_at(bridges: &[Bridge], i: usize, j: usize) -> bool
 #[tactic(auto, using(crate::proofs::Places::all_places, crate::proofs::Places::one_more_place))]
 fn apart_from(bridges: &[Bridge], i: usize) -> bool
     ensures { result ≡ list_all
-        (λ j. implies (begin_alike (slice_get bridges.now i) (slice_get bridges.now j)) (nat_eq i j))
+        (λ j. implies (begin_alike (slice_get bridges.now i) (slice_get bridges.now j))
+        (nat_eq i j))
         (places_up_to (length bridges.now)) }
 {
     for j in 0..bridges.len() {

@@ -39,7 +39,8 @@ fn initializers_fit(
 
 // Whether the hidden fields of a class fit, if it is a program's own.
 fn guest_fits(alloc: Global, id: ClassId, class: &Class) -> Result<bool, Memory>
-    ensures { IfOk result (λ fits. fits ≡ implies (the_is_guest id) (is_hidden_fit (class_view class.now))) }
+    ensures { IfOk result
+        (λ fits. fits ≡ implies (the_is_guest id) (is_hidden_fit (class_view class.now))) }
 {
     if !is_guest(id) {
         return Ok(true);
@@ -69,8 +70,10 @@ fn members_fit(
 ) -> Result<bool, Memory>
     requires { AreAbove (program_view program.now) id above.now }
     ensures { IfOk result (λ fit. fit ≡ (are_inherited_fit (program_view program.now) id &&
-        implies (the_can_be_made (class_view class.now)) (the_implements_all (program_view program.now) id) &&
-        list_all (is_initializer_fit (program_view program.now) id) (class_view class.now).initializers)) }
+        implies (the_can_be_made (class_view class.now))
+        (the_implements_all (program_view program.now) id) &&
+        list_all (is_initializer_fit (program_view program.now) id)
+        (class_view class.now).initializers)) }
 {
     if !inherited_fit(alloc, program, id, above)? {
         return Ok(false);

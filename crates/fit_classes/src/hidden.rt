@@ -16,7 +16,8 @@ use std::alloc::Global;
 
 // The types of the hidden fields among some, in order.
 fn hidden_types(alloc: Global, fields: &[Field]) -> Result<Vec<Ty>, Memory>
-    ensures { IfOk result (λ types. types.items ≡ field_types (filter the_is_hidden (map field_view fields.now))) }
+    ensures { IfOk result
+        (λ types. types.items ≡ field_types (filter the_is_hidden (map field_view fields.now))) }
 {
     let mut types = Vec::new(alloc);
     for field in fields {
@@ -63,7 +64,8 @@ fn begin_hidden(fields: &[Field], count: usize) -> bool
 #[tactic(auto, using(crate::proofs::Outer::outer))]
 fn outer_fits(class: &Class) -> bool
     ensures { result ≡ the_same_types
-        (take (outer_count (class_view class.now).enclosing) (field_types (class_view class.now).fields))
+        (take (outer_count (class_view class.now).enclosing)
+        (field_types (class_view class.now).fields))
         (outer_type (class_view class.now).enclosing) }
 {
     let Some(outer) = class.enclosing else {

@@ -22,7 +22,8 @@ fn inherited_fits(
     id: ClassId,
     method: &Method,
 ) -> Result<bool, Memory>
-    ensures { IfOk result (λ fits. fits ≡ is_inherited_fit (program_view program.now) id (method_view method.now)
+    ensures { IfOk result
+        (λ fits. fits ≡ is_inherited_fit (program_view program.now) id (method_view method.now)
         (the_implemented (program_view program.now) id (method_view method.now))) }
 {
     let Some((class, at)) = implemented(program, id, method) else {
@@ -121,7 +122,8 @@ pub fn inherited_fit(
 
 // Whether an object of a class has a method for one that stands at a place of a class above it.
 fn has_method(program: &Program, id: ClassId, class: ClassId, at: usize, method: &Method) -> bool
-    ensures { result ≡ the_has_method (program_view program.now) id class at (method_view method.now) }
+    ensures { result ≡ the_has_method (program_view program.now) id class at
+        (method_view method.now) }
 {
     if !is_of_objects(program, method) {
         return true;

@@ -12,7 +12,8 @@ use fit_parts::has_class;
 use je_core::{Class, ClassId, Head, Program};
 
 fn heads_there(program: &Program, heads: &[Head]) -> bool
-    ensures { result ≡ list_all (λ (h : OneHead). is_some (class_at (program_view program.now) h.class)) heads.now }
+    ensures { result ≡ list_all
+        (λ (h : OneHead). is_some (class_at (program_view program.now) h.class)) heads.now }
 {
     for head in heads {
         if !has_class(program, head.class) {

@@ -50,7 +50,8 @@ fn names_interface(program: &Program, class: ClassId) -> bool
 }
 
 fn are_interfaces(program: &Program, classes: &[ClassId]) -> bool
-    ensures { result ≡ list_all (λ i. the_is_interface (class_at (program_view program.now) i)) classes.now }
+    ensures { result ≡ list_all
+        (λ i. the_is_interface (class_at (program_view program.now) i)) classes.now }
 {
     for class in classes {
         if !names_interface(program, *class) {
@@ -81,7 +82,8 @@ fn none_below(
 // Whether a class is not above itself: no super of it is below it.
 fn is_not_above_itself(alloc: Global, program: &Program, id: ClassId) -> Result<bool, Memory>
     ensures { IfOk result (λ none. none ≡ list_all
-        (λ s. not (the_is_below (program_view program.now) s id)) (supers_of (program_view program.now) id)) }
+        (λ s. not (the_is_below (program_view program.now) s id))
+        (supers_of (program_view program.now) id)) }
 {
     let Some(class) = program.class(id) else {
         return Ok(true);

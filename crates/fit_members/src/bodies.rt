@@ -200,7 +200,8 @@ fn call_first_fits(
     superclass: Option<ClassId>,
     parts: &[Rc<Stmt>],
 ) -> Result<bool, Memory>
-    ensures { IfOk result (λ fits. fits ≡ is_call_first (program_view program.now) body.now superclass
+    ensures { IfOk result
+        (λ fits. fits ≡ is_call_first (program_view program.now) body.now superclass
         (core_stmts (stmt_views parts.now))) }
 {
     let Some((head, rest)) = parts.split_first() else {

@@ -20,7 +20,8 @@ use std::alloc::Global;
 // Whether a method has a body exactly where it is a program's own, and neither abstract nor native.
 fn has_due_body(class: ClassId, method: &Method) -> bool
     ensures { result ≡ the_same_bool (is_some (method_view method.now).body) (the_is_guest class &&
-        not ((method_view method.now).flags.is_abstract || (method_view method.now).flags.is_native)) }
+        not ((method_view method.now).flags.is_abstract
+        || (method_view method.now).flags.is_native)) }
 {
     let due = is_guest(class) && !(method.flags.is_abstract || method.flags.is_native);
     match &method.body {
@@ -50,7 +51,8 @@ fn locals_begin_with(locals: &[Local], params: &[Ty]) -> bool
 // Whether the first locals have the types of the parameters.
 #[tactic(auto, using(crate::proofs::FirstLocals::first_locals))]
 fn begin_with_params(locals: &[Local], params: &[Ty]) -> bool
-    ensures { result ≡ the_same_types (take (length params.now) (local_types locals.now)) params.now }
+    ensures { result ≡ the_same_types
+        (take (length params.now) (local_types locals.now)) params.now }
 {
     locals_begin_with(locals, params)
 }
@@ -58,7 +60,8 @@ fn begin_with_params(locals: &[Local], params: &[Ty]) -> bool
 // Whether the first locals of a method with a body have the types of its parameters.
 fn params_are_first(method: &Method) -> bool
     ensures { result ≡ implies (is_some (method_view method.now).body) (the_same_types
-        (take (length (method_view method.now).params) (local_types (method_view method.now).locals))
+        (take (length (method_view method.now).params)
+        (local_types (method_view method.now).locals))
         (method_view method.now).params) }
 {
     match &method.body {

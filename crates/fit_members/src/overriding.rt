@@ -64,7 +64,8 @@ fn overrides_fit_among(
     method: &Method,
     methods: &[Method],
 ) -> Result<bool, Memory>
-    ensures { IfOk result (λ fit. fit ≡ tested_from (λ n k. the_override_fits (program_view program.now)
+    ensures { IfOk result
+        (λ fit. fit ≡ tested_from (λ n k. the_override_fits (program_view program.now)
         (method_view method.now) k) 0 (map method_view methods.now)) }
 {
     for above in methods {
@@ -82,7 +83,8 @@ fn overrides_fit_in(
     method: &Method,
     class: ClassId,
 ) -> Result<bool, Memory>
-    ensures { IfOk result (λ fit. fit ≡ tested_from (λ n k. the_override_fits (program_view program.now)
+    ensures { IfOk result
+        (λ fit. fit ≡ tested_from (λ n k. the_override_fits (program_view program.now)
         (method_view method.now) k) 0 (methods_of (program_view program.now) class)) }
 {
     match program.class(class) {
@@ -99,7 +101,8 @@ fn overrides_fit_above(
     above: &[ClassId],
 ) -> Result<bool, Memory>
     ensures { IfOk result (λ fit. fit ≡ each_of (program_view program.now)
-        (λ d n k. the_override_fits (program_view program.now) (method_view method.now) k) above.now) }
+        (λ d n k. the_override_fits (program_view program.now)
+        (method_view method.now) k) above.now) }
 {
     for class in above {
         if !overrides_fit_in(alloc, program, method, *class)? {
@@ -119,7 +122,8 @@ pub fn overrides_fit(
 ) -> Result<bool, Memory>
     requires { AreAbove (program_view program.now) class above.now }
     ensures { IfOk result (λ fit. fit ≡ each_method (program_view program.now)
-        (λ d n k. implies (is_overridden (program_view program.now) class (method_view method.now) d k)
+        (λ d n k. implies (is_overridden (program_view program.now) class
+        (method_view method.now) d k)
         (the_stands_for (program_view program.now) (method_view method.now) k))) }
 {
     let fit = overrides_fit_above(alloc, program, method, above)?;

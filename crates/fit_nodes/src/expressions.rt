@@ -250,7 +250,8 @@ fn goes_to(
     e: &Expr,
     ty: Ty,
 ) -> Result<bool, Memory>
-    ensures { IfOk result (λ goes. goes ≡ (is_fit (program_view program.now) body.now (view e.now) &&
+    ensures { IfOk result
+        (λ goes. goes ≡ (is_fit (program_view program.now) body.now (view e.now) &&
         the_agrees (program_view program.now) (ty_of (view e.now)) ty)) }
 {
     if !expression_fits(alloc, program, body, e)? {
@@ -267,7 +268,8 @@ fn place_fits(
     body: &Body<'_>,
     place: &Expr,
 ) -> Result<bool, Memory>
-    ensures { IfOk result (λ fits. fits ≡ (is_fit (program_view program.now) body.now (view place.now) &&
+    ensures { IfOk result
+        (λ fits. fits ≡ (is_fit (program_view program.now) body.now (view place.now) &&
         is_place (program_view program.now) body.now (form_of (view place.now)))) }
 {
     if !expression_fits(alloc, program, body, place)? {

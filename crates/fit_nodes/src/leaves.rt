@@ -61,7 +61,8 @@ pub fn local_fits(body: &Body<'_>, local: u32, ty: Ty) -> bool
 
 /// Of `this`.
 pub fn this_fits(body: &Body<'_>, ty: Ty) -> bool
-    ensures { result ≡ (not body.now.is_static && the_same_type (the_class_type body.now.class) ty) }
+    ensures { result ≡ (not body.now.is_static
+        && the_same_type (the_class_type body.now.class) ty) }
 {
     !body.is_static && same_type(class_type(body.class), ty)
 }
@@ -74,7 +75,8 @@ fn is_static_as(expected: bool, is_static: bool) -> bool
 
 /// Of a field of a class: whether it is there, static or not, and of this type.
 pub fn field_fits(program: &Program, is_static: bool, class: ClassId, at: u32, ty: Ty) -> bool
-    ensures { result ≡ the_is_field is_static (the_field_at (program_view program.now) class at) ty }
+    ensures { result ≡ the_is_field is_static
+        (the_field_at (program_view program.now) class at) ty }
 {
     match field_at(program, class, at as usize) {
         None => false,
@@ -197,7 +199,8 @@ pub fn binary_fits(op: BinOp, left: &Expr, right: &Expr, ty: Ty) -> bool
 
 /// Of `&&` and `||`.
 pub fn logic_fits(left: &Expr, right: &Expr, ty: Ty) -> bool
-    ensures { result ≡ (the_is_bool (ty_of (view left.now)) && the_is_bool (ty_of (view right.now)) &&
+    ensures { result ≡ (the_is_bool (ty_of (view left.now))
+        && the_is_bool (ty_of (view right.now)) &&
         the_same_type the_bool ty) }
 {
     is_bool(type_of(left)) && is_bool(type_of(right)) && same_type(of(Base::Bool), ty)
@@ -205,7 +208,8 @@ pub fn logic_fits(left: &Expr, right: &Expr, ty: Ty) -> bool
 
 /// Of `?:`: one of the two has its type.
 pub fn choice_fits(yes: &Expr, no: &Expr, ty: Ty) -> bool
-    ensures { result ≡ (the_same_type (ty_of (view yes.now)) ty || the_same_type (ty_of (view no.now)) ty) }
+    ensures { result ≡ (the_same_type (ty_of (view yes.now)) ty
+        || the_same_type (ty_of (view no.now)) ty) }
 {
     same_type(type_of(yes), ty) || same_type(type_of(no), ty)
 }
@@ -347,7 +351,8 @@ pub fn maker_fits(
     at: u32,
     args: &[Rc<Expr>],
 ) -> Result<bool, Memory>
-    ensures { IfOk result (λ fits. fits ≡ (can_be_made_in (class_at (program_view program.now) class) &&
+    ensures { IfOk result
+        (λ fits. fits ≡ (can_be_made_in (class_at (program_view program.now) class) &&
         the_is_made_by (program_view program.now)
         (the_method_at (program_view program.now) class at)
         (types_of (list_of (cores (views args.now)))))) }
@@ -367,7 +372,8 @@ pub fn instance_fits(
     captures: &[Capture],
     ty: Ty,
 ) -> Result<bool, Memory>
-    ensures { IfOk result (λ fits. fits ≡ (the_captures_fit (program_view program.now) body.now class
+    ensures { IfOk result
+        (λ fits. fits ≡ (the_captures_fit (program_view program.now) body.now class
         (map capture_view captures.now) && the_same_type (the_class_type class) ty)) }
 {
     if !captures_fit(alloc, program, body, class, captures)? {

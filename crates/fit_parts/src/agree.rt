@@ -82,7 +82,8 @@ pub fn all_agree_with(
     elements: &[Rc<Expr>],
     ty: Ty,
 ) -> Result<bool, Memory>
-    ensures { IfOk result (λ agree. agree ≡ list_all (λ v. the_agrees (program_view program.now) v ty)
+    ensures { IfOk result
+        (λ agree. agree ≡ list_all (λ v. the_agrees (program_view program.now) v ty)
         (types_of (list_of (cores (views elements.now))))) }
 {
     each_agrees(alloc, program, elements, ty)

@@ -99,7 +99,8 @@ fn leads_to(
     from: Ty,
     path: &[(ClassId, u32)],
 ) -> Result<Option<Ty>, Memory>
-    ensures { IfOk result (λ to. to ≡ the_leads_to (program_view program.now) (Some from) path.now) }
+    ensures { IfOk result
+        (λ to. to ≡ the_leads_to (program_view program.now) (Some from) path.now) }
 {
     let mut ty = from;
     for step in path {

@@ -115,7 +115,8 @@ fn throw_fits(
     value: &Expr,
 ) -> Result<bool, Memory>
     ensures { IfOk result (λ fits. fits ≡ (is_fit (program_view program.now) body.now
-        (view value.now) && the_is_subtype (program_view program.now) (ty_of (view value.now)) the_throwable)) }
+        (view value.now) && the_is_subtype (program_view program.now)
+        (ty_of (view value.now)) the_throwable)) }
 {
     if !expression_fits(alloc, program, body, value)? {
         return Ok(false);

@@ -44,7 +44,8 @@ impl Cycles {
         requires named { (d : ℕ) → Contains (numbers named.now) d →
             Contains (specs.dependences (source_in program.now) class.0) d }
         ensures { IfOk result (λ back. back ≡
-            list_any (λ d. nat_eq d class.0 || specs.depends (source_in program.now) d class.0) (numbers named.now)) }
+            list_any (λ d. nat_eq d class.0 || specs.depends (source_in program.now) d class.0)
+            (numbers named.now)) }
     {
         for other in named {
             if self.leads_back(program, class, *other)? {
@@ -73,7 +74,8 @@ impl Cycles {
 
     // Whether a class depends on itself, for those of the program.
     fn may_depend_on_itself(&self, class: ClassId) -> bool
-        ensures { (p : Source) → AreCyclesOf p self.now → result ≡ false → specs.depends p class.0 class.0 ≡ false }
+        ensures { (p : Source) → AreCyclesOf p self.now → result ≡ false →
+            specs.depends p class.0 class.0 ≡ false }
     {
         let at = class.0 as usize;
         at >= self.on_cycle.len() || self.on_cycle[at]

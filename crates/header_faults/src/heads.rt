@@ -49,7 +49,9 @@ fn judge_head(
     requires library { HasLibrary (source_in program.now) }
     requires cycles { AreCyclesOf (source_in program.now) cycles.now }
     requires named { Contains (heads_of (source_in program.now) class.0) (type_view head.now) }
-    ensures { OnOk result (Adds faults.old faults.new (of_head (source_in program.now) class.0 (type_view head.now))) }
+    ensures { OnOk result
+        (Adds faults.old faults.new
+        (of_head (source_in program.now) class.0 (type_view head.now))) }
 {
     let meant = program
         .headers

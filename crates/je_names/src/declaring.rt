@@ -53,7 +53,8 @@ pub fn declare<'a>(
 fn declarations(alloc: Global, sites: &Sites, headers: &Headers) -> Result<Vec<ClassDecl>, Memory>
     requires fits { AreHeadersOf (source_of sites.now) headers.now }
     requires settled { settled (source_of sites.now) ≡ known_of headers.now }
-    ensures { IfOk result (λ ds. map class_shown ds.items ≡ declared_classes (source_of sites.now)) }
+    ensures { IfOk result
+        (λ ds. map class_shown ds.items ≡ declared_classes (source_of sites.now)) }
 {
     let program = Program::new(alloc, sites, headers);
     let mut classes = Vec::new(alloc);

@@ -30,7 +30,8 @@ pub fn library_classes(alloc: Global, names: &Names) -> Result<Vec<Class>, Memor
 
 fn class_of(alloc: Global, names: &Names, row: &ClassRow, at: usize) -> Result<Class, Memory>
     requires { at < 2 ^ 32 }
-    ensures { IfOk result (λ made. class_view made ≡ class_due (number_in names.now) at (class_said row.now)) }
+    ensures { IfOk result
+        (λ made. class_view made ≡ class_due (number_in names.now) at (class_said row.now)) }
 {
     Ok(Class {
         name: number(names, row.name),

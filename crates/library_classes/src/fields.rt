@@ -15,7 +15,8 @@ use std::rc::Rc;
 
 /// The fields of a class: those of its rows, then the hidden ones.
 pub fn fields(alloc: Global, names: &Names, row: &ClassRow) -> Result<Vec<Field>, Memory>
-    ensures { IfOk result (λ fields. map field_view fields.items ≡ fields_due (number_in names.now) (class_said row.now)) }
+    ensures { IfOk result (λ fields. map field_view fields.items ≡
+        fields_due (number_in names.now) (class_said row.now)) }
 {
     let mut fields = Vec::new(alloc);
     for member in member_rows() {
@@ -95,7 +96,8 @@ fn hidden_field(names: &Names, name: &str, base: Base) -> Field
 
 fn add_hidden(fields: &mut Vec<Field>, names: &Names, row: &ClassRow) -> Result<(), Memory>
     ensures { OnOk result (map field_view fields.new.items ≡
-        map field_view fields.old.items ++ hidden_fields (number_in names.now) (class_said row.now)) }
+        map field_view fields.old.items
+        ++ hidden_fields (number_in names.now) (class_said row.now)) }
 {
     if row.name == "java.lang.Throwable" {
         let string = Base::Class(class_id(LibraryClass::String));

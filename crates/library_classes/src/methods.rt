@@ -14,7 +14,8 @@ use std::alloc::Global;
 
 /// The methods of a class, in the order of their rows.
 pub fn methods(alloc: Global, names: &Names, row: &ClassRow) -> Result<Vec<Method>, Memory>
-    ensures { IfOk result (λ methods. map method_view methods.items ≡ methods_due (number_in names.now) (class_said row.now)) }
+    ensures { IfOk result (λ methods. map method_view methods.items ≡
+        methods_due (number_in names.now) (class_said row.now)) }
 {
     let mut methods = Vec::new(alloc);
     for member in member_rows() {
@@ -33,7 +34,8 @@ fn is_method_of(row: &ClassRow, member: &MemberRow) -> bool
 
 // Types without type parameters.
 fn all_erased(alloc: Global, row: &ClassRow, types: &[RowType]) -> Result<Vec<Ty>, Memory>
-    ensures { IfOk result (λ erased. erased.items ≡ map (the_erased (class_said row.now)) types.now) }
+    ensures { IfOk result
+        (λ erased. erased.items ≡ map (the_erased (class_said row.now)) types.now) }
 {
     let mut all = Vec::new(alloc);
     for ty in types {

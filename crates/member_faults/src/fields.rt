@@ -39,8 +39,10 @@ pub fn judge_fields(program: &Program, class: ClassId, faults: &mut Faults) -> R
 
 // Meets the name of a field, and finds its fault, if an earlier one has it.
 fn judge_name(name: Identifier, met: &mut Met, faults: &mut Faults) -> Result<(), Memory>
-    ensures met { OnOk result ((x : NameId) → is_met met.new x ≡ (is_met met.old x || same_name name.name x)) }
-    ensures faults { OnOk result (Adds faults.old faults.new (where_so (is_met met.old name.name) (twice name.span))) }
+    ensures met { OnOk result
+        ((x : NameId) → is_met met.new x ≡ (is_met met.old x || same_name name.name x)) }
+    ensures faults { OnOk result
+        (Adds faults.old faults.new (where_so (is_met met.old name.name) (twice name.span))) }
 {
     let before = met.meet(name.name)?;
     faults.add_where(before, FaultKind::Twice, name.span);
@@ -53,7 +55,8 @@ fn judge_constants(
     met: &mut Met,
     faults: &mut Faults,
 ) -> Result<(), Memory>
-    ensures { OnOk result ((p : Source) (c : ℕ) (rest : List FieldSite) (start : TheFaults) (whole : List Fault) →
+    ensures { OnOk result
+        ((p : Source) (c : ℕ) (rest : List FieldSite) (start : TheFaults) (whole : List Fault) →
         FieldsLeft p c start faults.old met.old (map constant_site constants.now ++ rest) whole →
         FieldsLeft p c start faults.new met.new rest whole) }
 {
@@ -72,7 +75,8 @@ fn judge_members(
     faults: &mut Faults,
 ) -> Result<(), Memory>
     ensures { OnOk result ((start : TheFaults) (whole : List Fault) →
-        FieldsLeft (source_in program.now) class.0 start faults.old met.old (field_sites (member_views_of members.now)) whole →
+        FieldsLeft (source_in program.now) class.0 start faults.old met.old
+        (field_sites (member_views_of members.now)) whole →
         FieldsLeft (source_in program.now) class.0 start faults.new met.new [] whole) }
 {
     for member in members {
@@ -90,7 +94,8 @@ fn judge_member(
     faults: &mut Faults,
 ) -> Result<(), Memory>
     ensures { OnOk result ((rest : List FieldSite) (start : TheFaults) (whole : List Fault) →
-        FieldsLeft (source_in program.now) class.0 start faults.old met.old (fields_before (member_view member.now) rest) whole →
+        FieldsLeft (source_in program.now) class.0 start faults.old met.old
+        (fields_before (member_view member.now) rest) whole →
         FieldsLeft (source_in program.now) class.0 start faults.new met.new rest whole) }
 {
     judge_member_here(program, class, member, met, faults)
@@ -104,7 +109,8 @@ fn judge_member_here(
     faults: &mut Faults,
 ) -> Result<(), Memory>
     ensures { OnOk result ((rest : List FieldSite) (start : TheFaults) (whole : List Fault) →
-        FieldsLeft (source_in program.now) class.0 start faults.old met.old (fields_before (member_node_view member.now) rest) whole →
+        FieldsLeft (source_in program.now) class.0 start faults.old met.old
+        (fields_before (member_node_view member.now) rest) whole →
         FieldsLeft (source_in program.now) class.0 start faults.new met.new rest whole) }
 {
     match member {
@@ -133,7 +139,8 @@ fn judge_variables(
 ) -> Result<(), Memory>
     ensures { OnOk result ((rest : List FieldSite) (start : TheFaults) (whole : List Fault) →
         FieldsLeft (source_in program.now) class.0 start faults.old met.old
-        (variable_sites modifiers.now (type_view ty.now) (variable_views_of vars.now) ++ rest) whole →
+        (variable_sites modifiers.now (type_view ty.now) (variable_views_of vars.now)
+        ++ rest) whole →
         FieldsLeft (source_in program.now) class.0 start faults.new met.new rest whole) }
 {
     if vars.is_empty() {
@@ -150,7 +157,8 @@ fn judge_variables(
 // The part of a class that a field with these modifiers is; a field of an interface is static (JLS 9.3).
 fn field_part(program: &Program, class: ClassId, modifiers: &[Modifier]) -> Part
     ensures { part_view result ≡
-        part_of (is_interface_sort (site_at (source_in program.now).sites class.0).sort || has_static_word modifiers.now) }
+        part_of (is_interface_sort (site_at (source_in program.now).sites class.0).sort
+        || has_static_word modifiers.now) }
 {
     let is_interface = matches!(program.sites.sort(class), Sort::Interface);
     if is_interface || has_static(modifiers) {

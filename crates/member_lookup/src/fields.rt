@@ -60,7 +60,8 @@ fn owners(
     class: ClassId,
     name: NameId,
 ) -> Result<Vec<ClassId>, Memory>
-    ensures { IfOk result (λ owners. owners.items ≡ reached_by (next_field (program_view program.now) name)
+    ensures { IfOk result
+        (λ owners. owners.items ≡ reached_by (next_field (program_view program.now) name)
         (length (program_view program.now).classes) class) }
 {
     let count = class_count(program);
@@ -77,7 +78,8 @@ fn owners(
 
 // Whether a field of a class is inherited by the classes below.
 fn can_inherit(program: &Program, class: ClassId, at: usize) -> bool
-    ensures { result ≡ can_inherit_field (program_view program.now) (record { class = class; at = at }) }
+    ensures { result ≡ can_inherit_field (program_view program.now)
+        (record { class = class; at = at }) }
 {
     match field_at(program, class, at) {
         None => false,

@@ -39,7 +39,8 @@ pub(crate) struct Method<'a> {
 /// type or what is thrown has a fault (JLS 8.4, 8.8, 9.4).
 pub fn judge_methods(program: &Program, class: ClassId, faults: &mut Faults) -> Result<(), Memory>
     ensures { OnOk result (Adds faults.old faults.new
-        (of_methods (source_in program.now) class.0 [] (methods_of (source_in program.now) class.0))) }
+        (of_methods (source_in program.now) class.0 []
+        (methods_of (source_in program.now) class.0))) }
 {
     let mut met = Signatures::new(program.alloc);
     let members = members_of(program.sites.written(class));
@@ -55,7 +56,8 @@ fn judge_members(
     faults: &mut Faults,
 ) -> Result<(), Memory>
     ensures { OnOk result ((start : TheFaults) (whole : List Fault) →
-        MethodsLeft (source_in program.now) class.0 start faults.old met.old (method_sites (member_views_of members.now)) whole →
+        MethodsLeft (source_in program.now) class.0 start faults.old met.old
+        (method_sites (member_views_of members.now)) whole →
         MethodsLeft (source_in program.now) class.0 start faults.new met.new [] whole) }
 {
     for member in members {
@@ -73,7 +75,8 @@ fn judge_member(
     faults: &mut Faults,
 ) -> Result<(), Memory>
     ensures { OnOk result ((rest : List MethodSite) (start : TheFaults) (whole : List Fault) →
-        MethodsLeft (source_in program.now) class.0 start faults.old met.old (methods_before (member_view member.now) rest) whole →
+        MethodsLeft (source_in program.now) class.0 start faults.old met.old
+        (methods_before (member_view member.now) rest) whole →
         MethodsLeft (source_in program.now) class.0 start faults.new met.new rest whole) }
 {
     judge_member_here(program, class, member, met, faults)
@@ -87,7 +90,8 @@ fn judge_member_here(
     faults: &mut Faults,
 ) -> Result<(), Memory>
     ensures { OnOk result ((rest : List MethodSite) (start : TheFaults) (whole : List Fault) →
-        MethodsLeft (source_in program.now) class.0 start faults.old met.old (methods_before (member_node_view member.now) rest) whole →
+        MethodsLeft (source_in program.now) class.0 start faults.old met.old
+        (methods_before (member_node_view member.now) rest) whole →
         MethodsLeft (source_in program.now) class.0 start faults.new met.new rest whole) }
 {
     match member {
@@ -163,9 +167,12 @@ fn judge_method(
     met: &mut Signatures,
     faults: &mut Faults,
 ) -> Result<(), Memory>
-    ensures { OnOk result ((m : MethodSite) (rest : List MethodSite) (start : TheFaults) (whole : List Fault) → IsMethod method.now m →
-        MethodsLeft (source_in program.now) method.now.head.place.class.0 start faults.old met.old (m ∷ rest) whole →
-        MethodsLeft (source_in program.now) method.now.head.place.class.0 start faults.new met.new rest whole) }
+    ensures { OnOk result ((m : MethodSite) (rest : List MethodSite) (start : TheFaults)
+        (whole : List Fault) → IsMethod method.now m →
+        MethodsLeft (source_in program.now) method.now.head.place.class.0 start faults.old met.old
+        (m ∷ rest) whole →
+        MethodsLeft (source_in program.now) method.now.head.place.class.0 start faults.new met.new
+        rest whole) }
 {
     let repeats = met.add(program.alloc, program.headers, program.sites, method.head)?;
     faults.add_where(repeats, FaultKind::Twice, method.span);
@@ -181,7 +188,8 @@ fn judge_result(
     faults: &mut Faults,
 ) -> Result<(), Memory>
     ensures { OnOk result (Adds faults.old faults.new
-        (of_optional_type (source_in program.now) place.class.0 (part_view place.part) (option_map (λ t. type_view t.now) result_type.entry))) }
+        (of_optional_type (source_in program.now) place.class.0 (part_view place.part)
+        (option_map (λ t. type_view t.now) result_type.entry))) }
 {
     match result_type {
         Some(ty) => program.judge_type(place, ty, faults),
@@ -197,7 +205,8 @@ fn judge_formals(
     faults: &mut Faults,
 ) -> Result<(), Memory>
     ensures { OnOk result (Adds faults.old faults.new
-        (flat_map (of_formal (source_in program.now) place.class.0 (part_view place.part)) (map formal_view formals.now))) }
+        (flat_map (of_formal (source_in program.now) place.class.0 (part_view place.part))
+        (map formal_view formals.now))) }
 {
     for formal in formals {
         program.judge_type(place, &formal.ty, faults)?;
@@ -213,7 +222,8 @@ fn judge_throws(
     faults: &mut Faults,
 ) -> Result<(), Memory>
     ensures { OnOk result (Adds faults.old faults.new
-        (flat_map (of_thrown (source_in program.now) place.class.0 (part_view place.part)) (map name_view throws.now))) }
+        (flat_map (of_thrown (source_in program.now) place.class.0 (part_view place.part))
+        (map name_view throws.now))) }
 {
     for name in throws {
         program.judge_name(place, name, 0, faults)?;

@@ -30,7 +30,8 @@ fn is_candidate(
     class: ClassId,
     at: usize,
 ) -> Result<bool, Memory>
-    ensures { IfOk result (λ candidate. candidate ≡ the_is_candidate (program_view program.now) call.now.own call.now.name
+    ensures { IfOk result (λ candidate. candidate ≡
+        the_is_candidate (program_view program.now) call.now.own call.now.name
         call.now.types.now (record { class = class; at = at })) }
 {
     if !all_pass(alloc, program, call.types, params(program, class, at))? {
@@ -49,7 +50,8 @@ fn add_among(
     methods: &[Method],
 ) -> Result<(), Memory>
     ensures { OnOk result (map member_of found.new.items ≡ map member_of found.old.items ++
-        filter (the_is_candidate (program_view program.now) call.now.own call.now.name call.now.types.now)
+        filter (the_is_candidate
+        (program_view program.now) call.now.own call.now.name call.now.types.now)
         (named_from class 0 (map method_view methods.now) call.now.name)) }
 {
     for (at, method) in methods.iter().enumerate() {
@@ -69,7 +71,8 @@ fn add_of(
     class: ClassId,
 ) -> Result<(), Memory>
     ensures { OnOk result (map member_of found.new.items ≡ map member_of found.old.items ++
-        candidates_of (program_view program.now) call.now.own call.now.name call.now.types.now class) }
+        candidates_of (program_view program.now) call.now.own call.now.name call.now.types.now
+        class) }
 {
     match program.class(class) {
         None => Ok(()),
@@ -85,8 +88,10 @@ pub fn candidates(
     classes: &[ClassId],
 ) -> Result<Vec<(ClassId, usize)>, Memory>
     ensures { IfOk result (λ found. map member_of found.items ≡
-        candidates_in (program_view program.now) call.now.own call.now.name call.now.types.now classes.now ++
-        candidates_of (program_view program.now) call.now.own call.now.name call.now.types.now the_object_class) }
+        candidates_in (program_view program.now) call.now.own call.now.name call.now.types.now
+        classes.now ++
+        candidates_of (program_view program.now) call.now.own call.now.name call.now.types.now
+        the_object_class) }
 {
     let mut found = Vec::new(alloc);
     for class in classes {

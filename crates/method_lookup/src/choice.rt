@@ -23,7 +23,8 @@ fn is_best(
     params_of_one: &[Ty],
 ) -> Result<bool, Memory>
     ensures { IfOk result (λ best. best ≡ list_all
-        (λ n. the_all_pass (program_view program.now) params_of_one.now (params_of (program_view program.now) n))
+        (λ n. the_all_pass (program_view program.now) params_of_one.now
+        (params_of (program_view program.now) n))
         (map member_of candidates.now)) }
 {
     for other in candidates {
@@ -61,7 +62,8 @@ fn best_of(
     candidates: &[(ClassId, usize)],
 ) -> Result<Vec<(ClassId, usize)>, Memory>
     ensures { IfOk result (λ best. map member_of best.items ≡ filter
-        (the_is_best (program_view program.now) (map member_of candidates.now)) (map member_of candidates.now)) }
+        (the_is_best (program_view program.now) (map member_of candidates.now))
+        (map member_of candidates.now)) }
 {
     let mut best = Vec::new(alloc);
     for one in candidates {
@@ -73,7 +75,8 @@ fn best_of(
 
 // Whether a method is there and not abstract.
 fn is_concrete(program: &Program, class: ClassId, at: usize) -> bool
-    ensures { result ≡ the_is_concrete (program_view program.now) (record { class = class; at = at }) }
+    ensures { result ≡ the_is_concrete (program_view program.now)
+        (record { class = class; at = at }) }
 {
     match method_at(program, class, at) {
         None => false,
@@ -83,7 +86,8 @@ fn is_concrete(program: &Program, class: ClassId, at: usize) -> bool
 
 // What those that aren't abstract are.
 fn concrete_among(program: &Program, best: &[(ClassId, usize)]) -> Found
-    ensures { found_seen result ≡ found_in (filter (the_is_concrete (program_view program.now)) (map member_of best.now)) }
+    ensures { found_seen result ≡
+        found_in (filter (the_is_concrete (program_view program.now)) (map member_of best.now)) }
 {
     let mut found = Found::Nothing;
     let mut left = best.len();
@@ -167,7 +171,8 @@ fn first_counting(
     best: &[(ClassId, usize)],
 ) -> Result<Found, Memory>
     ensures { IfOk result (λ first. found_seen first ≡ the_first_of
-        (filter (the_counts (program_view program.now) (map member_of best.now)) (map member_of best.now))) }
+        (filter (the_counts (program_view program.now) (map member_of best.now))
+        (map member_of best.now))) }
 {
     let mut first = Found::Several;
     let mut left = best.len();

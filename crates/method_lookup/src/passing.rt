@@ -11,7 +11,8 @@ use std::alloc::Global;
 
 /// The parameters of the method of a class at a place; none where there is no such method.
 pub fn params(program: &Program, class: ClassId, at: usize) -> &[Ty]
-    ensures { result.now ≡ params_of (program_view program.now) (record { class = class; at = at }) }
+    ensures { result.now ≡ params_of (program_view program.now)
+        (record { class = class; at = at }) }
 {
     match method_at(program, class, at) {
         None => &[],

@@ -89,7 +89,8 @@ fn reach_superclass(
         with_all (length (program_view program.now).classes) reached.new.items
         (filter (the_hands_on (program_view program.now) is_of_object class) interfaces) ≡
         with_all (length (program_view program.now).classes) reached.old.items
-        (filter (the_hands_on (program_view program.now) is_of_object class) (with_superclass superclass interfaces))) }
+        (filter (the_hands_on (program_view program.now) is_of_object class)
+        (with_superclass superclass interfaces))) }
 {
     match superclass {
         None => Ok(()),
@@ -146,7 +147,8 @@ fn reach_handing_on(
 // Object is reached from a top interface.
 fn reach_object(reached: &mut Vec<ClassId>, program: &Program, reaches: bool) -> Result<(), Memory>
     ensures { OnOk result (reached.new.items ≡
-        with_all (length (program_view program.now).classes) reached.old.items (object_if reaches)) }
+        with_all (length (program_view program.now).classes) reached.old.items
+        (object_if reaches)) }
 {
     if !reaches {
         return Ok(());
@@ -164,7 +166,8 @@ fn reach_on(
 ) -> Result<(), Memory>
     ensures { OnOk result (reached.new.items ≡
         with_all (length (program_view program.now).classes) reached.old.items
-        (next_method (program_view program.now) sought.now.name sought.now.params.now sought.now.is_of_object class)) }
+        (next_method (program_view program.now) sought.now.name sought.now.params.now
+        sought.now.is_of_object class)) }
 {
     if declares(program, class, sought.name, sought.params) {
         return Ok(());
@@ -182,7 +185,8 @@ fn reached(
     own: ClassId,
 ) -> Result<Vec<ClassId>, Memory>
     ensures { IfOk result (λ classes. classes.items ≡ reached_by
-        (next_method (program_view program.now) sought.now.name sought.now.params.now sought.now.is_of_object)
+        (next_method (program_view program.now) sought.now.name sought.now.params.now
+        sought.now.is_of_object)
         (length (program_view program.now).classes) own) }
 {
     let count = class_count(program);
@@ -211,7 +215,8 @@ fn is_among(classes: &[ClassId], class: ClassId) -> bool
 
 // Whether a method may be inherited: it is neither private nor a constructor.
 fn can_inherit(program: &Program, name: NameId, class: ClassId, at: usize) -> bool
-    ensures { result ≡ can_inherit_method (program_view program.now) name (record { class = class; at = at }) }
+    ensures { result ≡ can_inherit_method (program_view program.now) name
+        (record { class = class; at = at }) }
 {
     if names_constructors(program, name) {
         return false;

@@ -51,7 +51,8 @@ fn dependences_of(
 ) -> Result<Vec<ClassId>, Memory>
     requires fits { AreHeadersOf (source_of sites.now) headers.now }
     requires settled { settled (source_of sites.now) ≡ known_of headers.now }
-    ensures { IfOk result (λ list. numbers list.items ≡ specs.dependences (source_of sites.now) class.0) }
+    ensures { IfOk result
+        (λ list. numbers list.items ≡ specs.dependences (source_of sites.now) class.0) }
 {
     let mut list = Vec::new(alloc);
     let mut at = 0;
@@ -68,7 +69,8 @@ pub fn on_cycles(alloc: Global, sites: &Sites, graph: &Dependences) -> Result<Ve
     requires library { HasLibrary (source_of sites.now) }
     requires fits { AreDependencesOf (source_of sites.now) graph.now }
     ensures whole { IfOk result (λ list. length list.items ≡ length (source_of sites.now).sites) }
-    ensures each { IfOk result (λ list. (c : ℕ) → c < length (source_of sites.now).sites → slice_get list.items c ≡
+    ensures each { IfOk result
+        (λ list. (c : ℕ) → c < length (source_of sites.now).sites → slice_get list.items c ≡
         Some (specs.depends (source_of sites.now) c c)) }
 {
     let count = sites.len();
@@ -90,7 +92,8 @@ pub fn depends(
 ) -> Result<bool, Memory>
     requires library { HasLibrary (source_of sites.now) }
     requires fits { AreDependencesOf (source_of sites.now) graph.now }
-    ensures { IfOk result (λ depends. depends ≡ specs.depends (source_of sites.now) class.0 other.0) }
+    ensures { IfOk result
+        (λ depends. depends ≡ specs.depends (source_of sites.now) class.0 other.0) }
 {
     graph.leads(alloc, class, other)
 }
@@ -109,7 +112,8 @@ impl Dependences {
     // Whether a class leads back to itself, which none with a rank does.
     fn is_on_cycle(&self, alloc: Global, ranks: &[usize], class: ClassId) -> Result<bool, Memory>
         requires grounding { IsGrounding (depends_on self.now) ranks.now }
-        requires within { (c d : ℕ) → Contains (depends_on self.now c) d → d < length self.now.lists.items }
+        requires within { (c d : ℕ) → Contains (depends_on self.now c) d →
+            d < length self.now.lists.items }
         ensures { IfOk result (λ back. IsTrue back ↔ Leads (depends_on self.now) class.0 class.0) }
     {
         if is_ranked(ranks, class) {
@@ -120,7 +124,8 @@ impl Dependences {
 
     // Whether a class leads to another one: whether that is among all to which it leads.
     fn leads(&self, alloc: Global, from: ClassId, to: ClassId) -> Result<bool, Memory>
-        requires within { (c d : ℕ) → Contains (depends_on self.now c) d → d < length self.now.lists.items }
+        requires within { (c d : ℕ) → Contains (depends_on self.now c) d →
+            d < length self.now.lists.items }
         ensures { IfOk result (λ leads. IsTrue leads ↔ Leads (depends_on self.now) from.0 to.0) }
     {
         let mut met = IndexSet::new(alloc);
@@ -183,7 +188,8 @@ fn is_ranked(ranks: &[usize], class: ClassId) -> bool
 // Whether a class has no rank yet, and each of these has one.
 fn can_rank(ranks: &[usize], class: ClassId, above: &[ClassId]) -> bool
     ensures new { result ≡ true → slice_index ranks.now class.0 ≡ 0 }
-    ensures above { result ≡ true → (d : ℕ) → Contains (numbers above.now) d → 0 < slice_index ranks.now d }
+    ensures above { result ≡ true → (d : ℕ) → Contains (numbers above.now) d →
+        0 < slice_index ranks.now d }
 {
     !is_ranked(ranks, class) && are_ranked(ranks, above)
 }

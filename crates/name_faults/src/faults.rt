@@ -54,7 +54,8 @@ impl Faults {
     /// One more fault, where there is one.
     #[tactic(auto, unfolding(crate::specs::View::first_of))]
     pub fn add_where(&mut self, test: bool, kind: FaultKind, span: Span)
-        ensures { Adds self.old self.new (where_so test (fault_view (record { kind = kind; span = span }))) }
+        ensures { Adds self.old self.new
+            (where_so test (fault_view (record { kind = kind; span = span }))) }
     {
         if test {
             self.first = Some(earlier_of(self.first, NameFault { kind, span }));
@@ -64,7 +65,8 @@ impl Faults {
 
 // The first of a fault and one that was found before it.
 fn earlier_of(before: Option<NameFault>, fault: NameFault) -> NameFault
-    ensures { Some (fault_view result) ≡ earliest (option_map fault_view before) (Some (fault_view fault)) }
+    ensures { Some (fault_view result) ≡
+        earliest (option_map fault_view before) (Some (fault_view fault)) }
 {
     match before {
         Some(first) => if stands_first(fault, first) {

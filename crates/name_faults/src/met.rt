@@ -30,7 +30,8 @@ impl Met {
     #[tactic(auto, unfolding(crate::specs::Met::is_met))]
     pub fn meet(&mut self, name: NameId) -> Result<bool, Memory>
         ensures before { IfOk result (λ before. before ≡ is_met self.old name) }
-        ensures now { OnOk result ((x : NameId) → is_met self.new x ≡ (is_met self.old x || same_name name x)) }
+        ensures now { OnOk result
+            ((x : NameId) → is_met self.new x ≡ (is_met self.old x || same_name name x)) }
     {
         let is_new = self.numbers.insert(name.0)?;
         Ok(!is_new)

@@ -20,8 +20,10 @@ pub struct Headers {
 impl Headers {
     // Headers of which none is known.
     pub(crate) fn unknown(alloc: Global, sites: &Sites) -> Result<Headers, Memory>
-        ensures whole { IfOk result (λ h. length h.supers.items ≡ length (source_of sites.now).sites) }
-        ensures none { IfOk result (λ h. (c : ℕ) → c < length (source_of sites.now).sites → known_of h c ≡ None) }
+        ensures whole { IfOk result
+            (λ h. length h.supers.items ≡ length (source_of sites.now).sites) }
+        ensures none { IfOk result
+            (λ h. (c : ℕ) → c < length (source_of sites.now).sites → known_of h c ≡ None) }
     {
         let mut supers = Vec::new(alloc);
         for _ in 0..sites.len() {
@@ -49,7 +51,8 @@ impl Headers {
         ensures here { known_of self.new class.0 ≡ Some (numbers supers.items) }
         ensures others { (c : ℕ) → c ≢ class.0 → known_of self.new c ≡ known_of self.old c }
         ensures whole { length self.new.supers.items ≡ length self.old.supers.items }
-        ensures fewer { known_of self.old class.0 ≡ None → unknown_count self.new + 1 ≡ unknown_count self.old }
+        ensures fewer { known_of self.old class.0 ≡ None → unknown_count self.new + 1 ≡
+            unknown_count self.old }
     {
         self.supers[class.0 as usize] = Some(supers);
     }

@@ -24,7 +24,8 @@ pub struct Meaning {
 
 // Puts the class that was found behind the others.
 fn add_found(named: &mut Vec<ClassId>, look: Look) -> Result<(), Memory>
-    ensures { OnOk result (numbers named.new.items ≡ numbers named.old.items ++ class_found (look_view look)) }
+    ensures { OnOk result
+        (numbers named.new.items ≡ numbers named.old.items ++ class_found (look_view look)) }
 {
     if let Look::Class(class) = look {
         named.push(class)?;
@@ -43,9 +44,11 @@ impl Headers {
     ) -> Result<Meaning, Memory>
         requires { AreHeadersOf (source_of sites.now) self.now }
         ensures look { IfOk result (λ m. look_view m.look ≡
-            scope.meaning (source_of sites.now) (known_of self.now) place.class.0 (part_view place.part) parts.now) }
+            scope.meaning (source_of sites.now) (known_of self.now) place.class.0
+            (part_view place.part) parts.now) }
         ensures named { IfOk result (λ m. numbers m.named.items ≡
-            scope.named (source_of sites.now) (known_of self.now) place.class.0 (part_view place.part) parts.now) }
+            scope.named (source_of sites.now) (known_of self.now) place.class.0
+            (part_view place.part) parts.now) }
     {
         let Some((first, further)) = parts.split_first() else {
             return Ok(Meaning {
@@ -80,9 +83,11 @@ impl Headers {
     ) -> Result<Meaning, Memory>
         requires { AreHeadersOf (source_of sites.now) self.now }
         ensures look { IfOk result (λ m. look_view m.look ≡
-            scope.qualified (source_of sites.now) (known_of self.now) (look_view first) further.now) }
+            scope.qualified (source_of sites.now) (known_of self.now)
+            (look_view first) further.now) }
         ensures named { IfOk result (λ m. numbers m.named.items ≡
-            scope.named_on (source_of sites.now) (known_of self.now) (look_view first) further.now) }
+            scope.named_on (source_of sites.now) (known_of self.now)
+            (look_view first) further.now) }
     {
         let mut named = Vec::new(alloc);
         let mut look = first;

@@ -21,7 +21,8 @@ use std::alloc::Global;
 
 /// Puts each of these that isn't there yet behind the classes that are.
 pub fn add_all(met: &mut IndexSet<ClassId>, classes: &[ClassId]) -> Result<(), Memory>
-    ensures gains { OnOk result (Gains (numbers met.old.keys) (numbers met.new.keys) (numbers classes.now)) }
+    ensures gains { OnOk result
+        (Gains (numbers met.old.keys) (numbers met.new.keys) (numbers classes.now)) }
     ensures distinct { OnOk result (IsDistinct nat_eq (numbers met.old.keys) →
         IsDistinct nat_eq (numbers met.new.keys)) }
 {
@@ -84,7 +85,8 @@ impl Headers {
         name: NameId,
     ) -> Result<Look, Memory>
         requires fits { AreHeadersOf (source_of sites.now) self.now }
-        requires within { (c : ℕ) → Contains (numbers supers.now) c → c < length (source_of sites.now).sites }
+        requires within { (c : ℕ) → Contains (numbers supers.now) c →
+            c < length (source_of sites.now).sites }
         ensures { IfOk result (λ look. look_view look ≡
             inherited_from (source_of sites.now) (known_of self.now) name (numbers supers.now)) }
     {
@@ -114,7 +116,8 @@ impl Headers {
     ) -> Result<Look, Memory>
         ensures brings { IfOk result (λ look. look_view look ≡
             brings (source_of sites.now) (known_of self.now) name class.0) }
-        ensures gains { OnOk result (Gains (numbers met.old.keys) (numbers met.new.keys) (leads_to (source_of sites.now) (known_of self.now) name class.0)) }
+        ensures gains { OnOk result (Gains (numbers met.old.keys) (numbers met.new.keys)
+            (leads_to (source_of sites.now) (known_of self.now) name class.0)) }
         ensures distinct { OnOk result (IsDistinct nat_eq (numbers met.old.keys) →
             IsDistinct nat_eq (numbers met.new.keys)) }
     {

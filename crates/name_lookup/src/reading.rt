@@ -30,7 +30,8 @@ pub enum Reading {
 
 /// Whether each of these may be named in a class (JLS 6.6.1).
 pub fn are_accessible(sites: &Sites, class: ClassId, named: &[ClassId]) -> bool
-    ensures { result ≡ list_all (scope.is_accessible (source_of sites.now) class.0) (numbers named.now) }
+    ensures { result ≡ list_all (scope.is_accessible (source_of sites.now) class.0)
+        (numbers named.now) }
 {
     for other in named {
         if !is_accessible(sites, class, *other) {
@@ -48,7 +49,8 @@ fn add_super(
     meant: &Meaning,
 ) -> Result<(), Memory>
     ensures { OnOk result (numbers supers.new.items ≡
-        numbers supers.old.items ++ given (list_all (scope.is_accessible (source_of sites.now) class.0) (numbers meant.now.named.items)) (look_view meant.now.look)) }
+        numbers supers.old.items ++ given (list_all (scope.is_accessible (source_of sites.now)
+        class.0) (numbers meant.now.named.items)) (look_view meant.now.look)) }
 {
     if let Look::Class(above) = meant.look {
         if are_accessible(sites, class, meant.named.as_slice()) {
@@ -70,9 +72,11 @@ impl Headers {
     ) -> Result<Meaning, Memory>
         requires { AreHeadersOf (source_of sites.now) self.now }
         ensures look { IfOk result (λ m. look_view m.look ≡
-            scope.meaning (source_of sites.now) (known_of self.now) class.0 scope.header (parts_of (type_view head.now))) }
+            scope.meaning (source_of sites.now) (known_of self.now) class.0 scope.header
+            (parts_of (type_view head.now))) }
         ensures named { IfOk result (λ m. numbers m.named.items ≡
-            scope.named (source_of sites.now) (known_of self.now) class.0 scope.header (parts_of (type_view head.now))) }
+            scope.named (source_of sites.now) (known_of self.now) class.0 scope.header
+            (parts_of (type_view head.now))) }
     {
         self.node_meaning(alloc, sites, class, head)
     }
@@ -86,9 +90,11 @@ impl Headers {
     ) -> Result<Meaning, Memory>
         requires { AreHeadersOf (source_of sites.now) self.now }
         ensures look { IfOk result (λ m. look_view m.look ≡
-            scope.meaning (source_of sites.now) (known_of self.now) class.0 scope.header (parts_of (type_node_view head.now))) }
+            scope.meaning (source_of sites.now) (known_of self.now) class.0 scope.header
+            (parts_of (type_node_view head.now))) }
         ensures named { IfOk result (λ m. numbers m.named.items ≡
-            scope.named (source_of sites.now) (known_of self.now) class.0 scope.header (parts_of (type_node_view head.now))) }
+            scope.named (source_of sites.now) (known_of self.now) class.0 scope.header
+            (parts_of (type_node_view head.now))) }
     {
         match head {
             TyName::Primitive { .. } => Ok(Meaning {
@@ -108,7 +114,8 @@ impl Headers {
     /// What the header of a class names, or the first header for which it waits.
     pub fn read(&self, alloc: Global, sites: &Sites, class: ClassId) -> Result<Reading, Memory>
         requires { AreHeadersOf (source_of sites.now) self.now }
-        ensures { IfOk result (λ r. reading_view r ≡ header_of (source_of sites.now) (known_of self.now) class.0) }
+        ensures { IfOk result
+            (λ r. reading_view r ≡ header_of (source_of sites.now) (known_of self.now) class.0) }
     {
         let mut supers = Vec::new(alloc);
         let mut at = 0;

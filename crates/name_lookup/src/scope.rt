@@ -31,7 +31,8 @@ impl Part {
 
 // The type variable of a class by a name; in its static members it means nothing (JLS 8.1.2).
 fn variable(sites: &Sites, class: ClassId, part: Part, name: NameId) -> Look
-    ensures { look_view result ≡ scope.variable_named (source_of sites.now) class.0 (part_view part) name }
+    ensures { look_view result ≡
+        scope.variable_named (source_of sites.now) class.0 (part_view part) name }
 {
     match (sites.parameter(class, name), part) {
         (None, _) => Look::Nothing,
@@ -53,7 +54,8 @@ impl Headers {
     ) -> Result<Look, Memory>
         requires { AreHeadersOf (source_of sites.now) self.now }
         ensures { IfOk result (λ look. look_view look ≡
-            scope.in_scope (source_of sites.now) (known_of self.now) place.class.0 (part_view place.part) name) }
+            scope.in_scope (source_of sites.now) (known_of self.now) place.class.0
+            (part_view place.part) name) }
     {
         let mut class = place.class;
         let mut part = place.part;
@@ -103,7 +105,8 @@ impl Headers {
     ) -> Result<Look, Memory>
         requires { AreHeadersOf (source_of sites.now) self.now }
         ensures { IfOk result (λ look. look_view look ≡
-            scope.in_class (source_of sites.now) (known_of self.now) name (part_view part) class.0) }
+            scope.in_class (source_of sites.now) (known_of self.now) name
+            (part_view part) class.0) }
     {
         let variable = variable(sites, class, part, name);
         if let Part::Header = part {

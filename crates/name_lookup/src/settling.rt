@@ -31,9 +31,11 @@ impl Headers {
         requires library { HasLibrary (source_of sites.now) }
         requires settling { AreSettling (source_of sites.now) self.old }
         ensures settling { OnOk result (AreSettling (source_of sites.now) self.new) }
-        ensures fewer { IfOk result (λ changed. changed ≡ true → unknown_count self.new < unknown_count self.old) }
+        ensures fewer { IfOk result
+            (λ changed. changed ≡ true → unknown_count self.new < unknown_count self.old) }
         ensures rest { IfOk result (λ changed. changed ≡
-            false → AllWait (source_of sites.now) (known_of self.new) (length (source_of sites.now).sites)) }
+            false → AllWait (source_of sites.now) (known_of self.new)
+            (length (source_of sites.now).sites)) }
     {
         let mut changed = false;
         for at in 0..sites.len() {
@@ -50,7 +52,8 @@ impl Headers {
         requires settling { AreSettling (source_of sites.now) self.old }
         requires within { class.0 < length (source_of sites.now).sites }
         ensures settling { OnOk result (AreSettling (source_of sites.now) self.new) }
-        ensures fewer { IfOk result (λ changed. changed ≡ true → unknown_count self.new < unknown_count self.old) }
+        ensures fewer { IfOk result
+            (λ changed. changed ≡ true → unknown_count self.new < unknown_count self.old) }
         ensures same { IfOk result (λ changed. changed ≡ false → self.new ≡ self.old) }
         ensures waits { IfOk result (λ changed. changed ≡ false → known_of self.old class.0 ≡
             None → header_of (source_of sites.now) (known_of self.old) class.0 ≡ None) }

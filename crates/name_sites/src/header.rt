@@ -128,7 +128,8 @@ fn head_of_class<'a>(
     at: usize,
 ) -> Option<&'a TyName>
     ensures lookup { option_map (λ t. type_view t.now) result ≡
-        slice_get (with_superclass (type_view_of_option extends.now) (listed (type_views_of implements.now))) at }
+        slice_get (with_superclass (type_view_of_option extends.now)
+        (listed (type_views_of implements.now))) at }
     ensures few { OnSome result (at + 1 < 2 ^ 64) }
 {
     match extends {
@@ -144,14 +145,16 @@ fn head_of_class<'a>(
 // The type at a place in a list of a header.
 #[tactic(auto, using(crate::proofs::Heads::listed_names))]
 fn listed_at(types: &[TyName], at: usize) -> Option<&TyName>
-    ensures lookup { option_map (λ t. type_view t.now) result ≡ slice_get (listed (type_views_of types.now)) at }
+    ensures lookup { option_map (λ t. type_view t.now) result ≡
+        slice_get (listed (type_views_of types.now)) at }
     ensures few { OnSome result (at + 2 < 2 ^ 64) }
 {
     type_at(types, at)
 }
 
 fn type_at(types: &[TyName], at: usize) -> Option<&TyName>
-    ensures lookup { option_map (λ t. type_view t.now) result ≡ slice_get (map type_view types.now) at }
+    ensures lookup { option_map (λ t. type_view t.now) result ≡
+        slice_get (map type_view types.now) at }
     ensures few { OnSome result (at + 2 < 2 ^ 64) }
 {
     types.get(at)
@@ -159,7 +162,8 @@ fn type_at(types: &[TyName], at: usize) -> Option<&TyName>
 
 /// The type at a place among those that a class's header names.
 pub fn head<'a>(written: Written<'a>, at: usize) -> Option<&'a TyName>
-    ensures lookup { option_map (λ t. type_view t.now) result ≡ slice_get (heads_in (written_view written.entry)) at }
+    ensures lookup { option_map (λ t. type_view t.now) result ≡
+        slice_get (heads_in (written_view written.entry)) at }
     ensures few { OnSome result (at + 1 < 2 ^ 64) }
 {
     match written {

@@ -35,7 +35,8 @@ fn keep_imports(
     imports: &[Name],
 ) -> Result<(), Memory>
     ensures { OnOk result ((p : Option ℕ) (x : NameId) → found (kept imported.new p x) ≡
-        or_further (found (kept imported.old p x)) (in_unit unit p (first_import names.now x (map name_view imports.now)))) }
+        or_further (found (kept imported.old p x))
+        (in_unit unit p (first_import names.now x (map name_view imports.now)))) }
 {
     for import in imports {
         keep_import(alloc, names, imported, unit, import)?;
@@ -52,7 +53,8 @@ fn keep_import(
     import: &Name,
 ) -> Result<(), Memory>
     ensures { OnOk result ((p : Option ℕ) (x : NameId) → found (kept imported.new p x) ≡
-        or_further (found (kept imported.old p x)) (in_unit unit p (import_named names.now x (name_view import.now)))) }
+        or_further (found (kept imported.old p x))
+        (in_unit unit p (import_named names.now x (name_view import.now)))) }
 {
     let Some(last) = last_identifier(&import.parts) else {
         return Ok(());

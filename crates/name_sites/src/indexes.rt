@@ -32,7 +32,8 @@ pub fn declared_by_name(alloc: Global, classes: &[ClassSite]) -> Result<ByName, 
 
 fn keep_class(declared: &mut ByName, class: &ClassSite, at: u32) -> Result<(), Memory>
     ensures { OnOk result ((p : Option ℕ) (x : NameId) → kept declared.new p x ≡
-        or_else (kept declared.old p x) (at_name (name_declared class.now) class.now.spot.within at p x)) }
+        or_else (kept declared.old p x)
+        (at_name (name_declared class.now) class.now.spot.within at p x)) }
 {
     match declared_name(class) {
         Some(name) => {
@@ -59,7 +60,8 @@ pub fn tops(alloc: Global, classes: &[ClassSite]) -> Result<Vec<u32>, Memory>
     requires earlier { NameEarlier classes.now }
     requires few { length classes.now < 2 ^ 27 }
     ensures count { IfOk result (λ tops. length tops.items ≡ length classes.now) }
-    ensures tops { IfOk result (λ tops. (c : ℕ) → c < length classes.now → slice_index tops.items c ≡
+    ensures tops { IfOk result
+        (λ tops. (c : ℕ) → c < length classes.now → slice_index tops.items c ≡
         top_of (sites_of classes.now) c) }
 {
     let mut tops = Vec::new(alloc);

@@ -34,10 +34,13 @@ pub struct Sites<'a> {
     ghost few: { length classes.items < 2 ^ 27 },
     ghost earlier: { NameEarlier classes.items },
     ghost each_top: { length tops.items ≡ length classes.items },
-    ghost tops_are: { (c : ℕ) → c < length classes.items → slice_index tops.items c ≡ top_of (sites_of classes.items) c },
-    ghost imported_are: { (u : ℕ) (x : NameId) → found (kept imported (Some u) x) ≡ first_import names.now x (imports_among units.now u) },
+    ghost tops_are: { (c : ℕ) → c < length classes.items → slice_index tops.items c ≡
+        top_of (sites_of classes.items) c },
+    ghost imported_are: { (u : ℕ) (x : NameId) → found (kept imported (Some u) x) ≡
+        first_import names.now x (imports_among units.now u) },
     ghost implicit_are: { implicit.items ≡ implicit_numbers names.now },
-    ghost declared_are: { (p : Option ℕ) (x : NameId) → kept declared p x ≡ first_declared 0 (sites_of classes.items) p x },
+    ghost declared_are: { (p : Option ℕ) (x : NameId) → kept declared p x ≡
+        first_declared 0 (sites_of classes.items) p x },
 }
 
 /// What stands directly round a class.
@@ -129,7 +132,8 @@ impl<'a> Sites<'a> {
     /// The class of the library whose full name these parts are (JLS 6.7).
     #[tactic(auto, unfolding(crate::specs::View::source_of))]
     pub fn full_name(&self, alloc: Global, parts: &[Identifier]) -> Result<Option<ClassId>, Memory>
-        ensures { IfOk result (λ class. number_in class ≡ library_class (source_of self.now).texts parts.now) }
+        ensures { IfOk result
+            (λ class. number_in class ≡ library_class (source_of self.now).texts parts.now) }
     {
         match full_name(alloc, self.names, parts)? {
             Some(class) => Ok(Some(ClassId(class))),
@@ -139,7 +143,8 @@ impl<'a> Sites<'a> {
 
     /// The place of the type parameter of a name among those of a class (JLS 8.1.2).
     pub fn parameter(&self, class: ClassId, name: NameId) -> Option<usize>
-        ensures { result ≡ place_of_parameter 0 (parameters_in (site_at (source_of self.now).sites class.0).written) name }
+        ensures { result ≡ place_of_parameter 0
+            (parameters_in (site_at (source_of self.now).sites class.0).written) name }
     {
         parameter_place(parameters_of(self.class(class).written), name)
     }
@@ -164,7 +169,8 @@ impl<'a> Sites<'a> {
     #[tactic(auto, using(crate::proofs::Locals::named_here, crate::proofs::Locals::named_further))]
     pub fn local_named(&self, class: ClassId, name: NameId) -> Option<ClassId>
         ensures { found (number_in result) ≡
-            first_named (source_of self.now) name (site_at (source_of self.now).sites class.0).spot.locals }
+            first_named (source_of self.now) name
+            (site_at (source_of self.now).sites class.0).spot.locals }
     {
         let mut next = Some(class);
         while let Some(here) = next {
@@ -181,8 +187,10 @@ impl<'a> Sites<'a> {
     pub fn outside(&self, class: ClassId) -> Outside
         ensures round { (site_at (source_of self.now).sites class.0).spot.round ≡
             round_from (source_of self.now).sites (number_in result.within) }
-        ensures within { number_in result.within ≡ within (site_at (source_of self.now).sites class.0) }
-        ensures context { context_view result.context ≡ (site_at (source_of self.now).sites class.0).spot.context }
+        ensures within { number_in result.within ≡
+            within (site_at (source_of self.now).sites class.0) }
+        ensures context { context_view result.context ≡
+            (site_at (source_of self.now).sites class.0).spot.context }
         ensures earlier { ForSome (number_in result.within) (λ d. d < class.0) }
     {
         let site = self.class(class);
@@ -291,7 +299,8 @@ fn numbered(number: Option<usize>) -> Option<ClassId>
 
 // Whether it is a local class of a name.
 fn is_local_named(site: &ClassSite, name: NameId) -> bool
-    ensures { result ≡ (site.now.is_local && has_name (name_in (written_view site.now.written)) name) }
+    ensures { result ≡ (site.now.is_local
+        && has_name (name_in (written_view site.now.written)) name) }
 {
     site.is_local && has_this_name(site.written, name)
 }

@@ -32,7 +32,8 @@ pub fn source_type(
 ) -> Result<SrcTy, Memory>
     requires { AreHeadersOf (source_of sites.now) headers.now }
     ensures { IfOk result (λ t. shown t ≡ in_limit
-        (the_source_type (source_of sites.now) (known_of headers.now) place.class.0 (part_view place.part) (type_view ty.now))) }
+        (the_source_type (source_of sites.now) (known_of headers.now) place.class.0
+        (part_view place.part) (type_view ty.now))) }
 {
     source_type_here(headers, alloc, sites, place, ty)
 }
@@ -47,7 +48,8 @@ fn source_type_here(
 ) -> Result<SrcTy, Memory>
     requires { AreHeadersOf (source_of sites.now) headers.now }
     ensures { IfOk result (λ t. shown t ≡ in_limit
-        (the_source_type (source_of sites.now) (known_of headers.now) place.class.0 (part_view place.part) (type_node_view ty.now))) }
+        (the_source_type (source_of sites.now) (known_of headers.now) place.class.0
+        (part_view place.part) (type_node_view ty.now))) }
 {
     match ty {
         TyName::Primitive {
@@ -84,7 +86,8 @@ fn types_named(
 ) -> Result<Vec<SrcTy>, Memory>
     requires { AreHeadersOf (source_of sites.now) headers.now }
     ensures types { IfOk result (λ ts. all_shown ts.items ≡ all_in_limit
-        (the_types_named (source_of sites.now) (known_of headers.now) place.class.0 (part_view place.part) (type_views_of args.now))) }
+        (the_types_named (source_of sites.now) (known_of headers.now) place.class.0
+        (part_view place.part) (type_views_of args.now))) }
     ensures count { IfOk result (λ ts. length ts.items ≡ count (type_views_of args.now)) }
 {
     let mut types = Vec::new(alloc);
@@ -97,7 +100,8 @@ fn types_named(
 // The base of a name with these type arguments, by what it means (JLS 4.5).
 fn base_for(sites: &Sites, look: Look, types: Vec<SrcTy>) -> SrcBase
     ensures { (ts : SourceTypes) (n : ℕ) → all_shown types.items ≡ all_in_limit ts →
-        base_shown result (min 255 n) ≡ in_limit (type_for (source_of sites.now) (look_view look) (length types.items) ts n) }
+        base_shown result (min 255 n) ≡
+        in_limit (type_for (source_of sites.now) (look_view look) (length types.items) ts n) }
 {
     match look {
         Look::Class(class) => made(sites, class, types),
@@ -111,7 +115,8 @@ fn base_for(sites: &Sites, look: Look, types: Vec<SrcTy>) -> SrcBase
 // A class with its type arguments; the null type, where it takes another number of them.
 fn made(sites: &Sites, class: ClassId, types: Vec<SrcTy>) -> SrcBase
     ensures { (ts : SourceTypes) (n : ℕ) → all_shown types.items ≡ all_in_limit ts →
-        base_shown result (min 255 n) ≡ in_limit (type_for (source_of sites.now) (a_class class.0) (length types.items) ts n) }
+        base_shown result (min 255 n) ≡
+        in_limit (type_for (source_of sites.now) (a_class class.0) (length types.items) ts n) }
 {
     if types.len() != arity(sites, class) {
         SrcBase::Plain(Base::Null)
@@ -153,7 +158,8 @@ fn formal_type(
 ) -> Result<SrcTy, Memory>
     requires { AreHeadersOf (source_of sites.now) headers.now }
     ensures { IfOk result (λ t. shown t ≡ in_limit
-        (the_formal_type (source_of sites.now) (known_of headers.now) place.class.0 (part_view place.part) (formal_view formal.now))) }
+        (the_formal_type (source_of sites.now) (known_of headers.now) place.class.0
+        (part_view place.part) (formal_view formal.now))) }
 {
     let declared = source_type(headers, alloc, sites, place, &formal.ty)?;
     Ok(SrcTy {
@@ -173,7 +179,8 @@ pub fn parameter_types(
 ) -> Result<Vec<SrcTy>, Memory>
     requires { AreHeadersOf (source_of sites.now) headers.now }
     ensures { IfOk result (λ ts. map shown ts.items ≡ map (λ f. in_limit
-        (the_formal_type (source_of sites.now) (known_of headers.now) place.class.0 (part_view place.part) f)) (map formal_view formals.now)) }
+        (the_formal_type (source_of sites.now) (known_of headers.now) place.class.0
+        (part_view place.part) f)) (map formal_view formals.now)) }
 {
     let mut types = Vec::new(alloc);
     for formal in formals {

@@ -68,8 +68,10 @@ impl<'a> Collector<'a> {
         is_local: bool,
     ) -> Result<usize, Memory>
         ensures number { IfOk result (λ n. n ≡ length (collected self.old)) }
-        ensures sites { let number = length (collected self.old) in OnOk result (collected self.new ≡
-            collected self.old ++ site (written_view written.entry) sort (in_own_scope is_local number (spot_of self.old)) ∷ []) }
+        ensures sites { let number = length (collected self.old) in OnOk result
+            (collected self.new ≡
+            collected self.old ++ site (written_view written.entry) sort
+            (in_own_scope is_local number (spot_of self.old)) ∷ []) }
         ensures stays { OnOk result (spot_of self.new ≡ spot_of self.old) }
     {
         let number = self.classes.len();
@@ -120,7 +122,8 @@ impl<'a> Collector<'a> {
     #[tactic(auto, using(crate::proofs::Behind::count_of_sites), unfolding(crate::specs::Collected::collected, crate::specs::Collected::spot_of))]
     pub fn enter(&mut self, number: usize)
         requires there { number < length (collected self.old) }
-        requires here { (site_at (collected self.old) number).spot.round ≡ (spot_of self.old).round }
+        requires here { (site_at (collected self.old) number).spot.round ≡
+            (spot_of self.old).round }
         ensures sites { collected self.new ≡ collected self.old }
         ensures spot { spot_of self.new ≡ inside number (spot_of self.old) instance }
     {
@@ -137,7 +140,11 @@ impl<'a> Collector<'a> {
     pub fn go_behind(&mut self, number: usize)
         requires { number < length (collected self.old) }
         ensures sites { collected self.new ≡ collected self.old }
-        ensures spot { spot_of self.new ≡ record (spot_of self.old) { locals = (site_at (collected self.old) number).spot.locals } }
+        ensures spot { spot_of self.new ≡
+            record (spot_of self.old) {
+              locals =
+                  (site_at (collected self.old) number).spot.locals;
+            } }
     {
         self.spot.nearest = Some(number);
     }
@@ -147,7 +154,8 @@ impl<'a> Collector<'a> {
     pub fn set_context(&mut self, context: Context) -> Context
         ensures was { context_view result ≡ (spot_of self.old).context }
         ensures sites { collected self.new ≡ collected self.old }
-        ensures spot { spot_of self.new ≡ record (spot_of self.old) { context = context_view context } }
+        ensures spot { spot_of self.new ≡
+            record (spot_of self.old) { context = context_view context } }
     {
         let before = self.spot.context;
         self.spot.context = context;

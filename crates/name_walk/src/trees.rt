@@ -145,7 +145,8 @@ fn statement<'a>(collector: &mut Collector<'a>, stmt: &'a Stmt) -> Result<(), Me
 #[cycle(walk)]
 fn statement_here<'a>(collector: &mut Collector<'a>, stmt: &'a Stmt) -> Result<(), Memory>
     ensures sites { OnOk result (collected collector.new ≡
-        in_statement (spot_of collector.old) (statement_node_view stmt.now) (collected collector.old)) }
+        in_statement (spot_of collector.old) (statement_node_view stmt.now)
+        (collected collector.old)) }
     ensures stays { OnOk result (spot_of collector.new ≡ spot_of collector.old) }
 {
     match stmt {
@@ -242,7 +243,8 @@ fn block_statement<'a>(collector: &mut Collector<'a>, stmt: &'a Stmt) -> Result<
     ensures sites { OnOk result (collected collector.new ≡
         in_statement (spot_of collector.old) (statement_view stmt.now) (collected collector.old)) }
     ensures spot { OnOk result (spot_of collector.new ≡
-        behind (spot_of collector.old) (statement_view stmt.now) (length (collected collector.old))) }
+        behind (spot_of collector.old) (statement_view stmt.now)
+        (length (collected collector.old))) }
 {
     let number = collector.len();
     statement(collector, stmt)?;
@@ -270,7 +272,8 @@ fn block_statements<'a>(collector: &mut Collector<'a>, list: &'a [Stmt]) -> Resu
 #[tactic(auto, using(je_ast::proofs::Views::for_initializer_is))]
 fn for_initializer<'a>(collector: &mut Collector<'a>, init: &'a ForInit) -> Result<(), Memory>
     ensures sites { OnOk result (collected collector.new ≡
-        in_start (spot_of collector.old) (for_initializer_view init.now) (collected collector.old)) }
+        in_start (spot_of collector.old) (for_initializer_view init.now)
+        (collected collector.old)) }
     ensures stays { OnOk result (spot_of collector.new ≡ spot_of collector.old) }
 {
     for_initializer_here(collector, init)
@@ -279,7 +282,8 @@ fn for_initializer<'a>(collector: &mut Collector<'a>, init: &'a ForInit) -> Resu
 #[cycle(walk)]
 fn for_initializer_here<'a>(collector: &mut Collector<'a>, init: &'a ForInit) -> Result<(), Memory>
     ensures sites { OnOk result (collected collector.new ≡
-        in_start (spot_of collector.old) (for_initializer_node_view init.now) (collected collector.old)) }
+        in_start (spot_of collector.old) (for_initializer_node_view init.now)
+        (collected collector.old)) }
     ensures stays { OnOk result (spot_of collector.new ≡ spot_of collector.old) }
 {
     match init {
@@ -291,7 +295,8 @@ fn for_initializer_here<'a>(collector: &mut Collector<'a>, init: &'a ForInit) ->
 #[cycle(walk)]
 fn variables<'a>(collector: &mut Collector<'a>, list: &'a [Var]) -> Result<(), Memory>
     ensures sites { OnOk result (collected collector.new ≡
-        in_variables (spot_of collector.old) (variable_views_of list.now) (collected collector.old)) }
+        in_variables (spot_of collector.old) (variable_views_of list.now)
+        (collected collector.old)) }
     ensures stays { OnOk result (spot_of collector.new ≡ spot_of collector.old) }
 {
     for var in list {
@@ -348,9 +353,11 @@ fn class_body<'a>(
     in_interface: bool,
 ) -> Result<(), Memory>
     requires there { number < length (collected collector.old) }
-    requires here { (site_at (collected collector.old) number).spot.round ≡ (spot_of collector.old).round }
+    requires here { (site_at (collected collector.old) number).spot.round ≡
+        (spot_of collector.old).round }
     ensures sites { OnOk result (collected collector.new ≡
-        in_members in_interface (inside number (spot_of collector.old) instance) (member_views_of body.now) (collected collector.old)) }
+        in_members in_interface (inside number (spot_of collector.old) instance)
+        (member_views_of body.now) (collected collector.old)) }
     ensures stays { OnOk result (spot_of collector.new ≡ spot_of collector.old) }
 {
     let here = collector.spot();
@@ -367,7 +374,8 @@ fn class_members<'a>(
     in_interface: bool,
 ) -> Result<(), Memory>
     ensures sites { OnOk result (collected collector.new ≡
-        in_members in_interface (spot_of collector.old) (member_views_of list.now) (collected collector.old)) }
+        in_members in_interface (spot_of collector.old) (member_views_of list.now)
+        (collected collector.old)) }
     ensures stays { OnOk result (spot_of collector.new ≡ spot_of collector.old) }
 {
     for member in list {
@@ -384,7 +392,8 @@ fn class_member<'a>(
     in_interface: bool,
 ) -> Result<(), Memory>
     ensures sites { OnOk result (collected collector.new ≡
-        in_member in_interface (spot_of collector.old) (member_view member.now) (collected collector.old)) }
+        in_member in_interface (spot_of collector.old) (member_view member.now)
+        (collected collector.old)) }
     ensures stays { OnOk result (spot_of collector.new ≡ spot_of collector.old) }
 {
     class_member_here(collector, member, in_interface)
@@ -397,7 +406,8 @@ fn class_member_here<'a>(
     in_interface: bool,
 ) -> Result<(), Memory>
     ensures sites { OnOk result (collected collector.new ≡
-        in_member in_interface (spot_of collector.old) (member_node_view member.now) (collected collector.old)) }
+        in_member in_interface (spot_of collector.old) (member_node_view member.now)
+        (collected collector.old)) }
     ensures stays { OnOk result (spot_of collector.new ≡ spot_of collector.old) }
 {
     match member {
@@ -450,7 +460,8 @@ fn class_member_here<'a>(
 #[cycle(walk)]
 fn optional_block<'a>(collector: &mut Collector<'a>, block: &'a Option<Block>) -> Result<(), Memory>
     ensures sites { OnOk result (collected collector.new ≡
-        in_body (spot_of collector.old) (block_view_of_option block.now) (collected collector.old)) }
+        in_body (spot_of collector.old) (block_view_of_option block.now)
+        (collected collector.old)) }
     ensures stays { OnOk result (spot_of collector.new ≡ spot_of collector.old) }
 {
     match block {
@@ -466,7 +477,8 @@ fn constructor_call<'a>(
     call: &'a ConstructorCall,
 ) -> Result<(), Memory>
     ensures sites { OnOk result (collected collector.new ≡
-        in_first (spot_of collector.old) (constructor_invocation_view call.now) (collected collector.old)) }
+        in_first (spot_of collector.old) (constructor_invocation_view call.now)
+        (collected collector.old)) }
     ensures stays { OnOk result (spot_of collector.new ≡ spot_of collector.old) }
 {
     constructor_call_here(collector, call)
@@ -478,7 +490,8 @@ fn constructor_call_here<'a>(
     call: &'a ConstructorCall,
 ) -> Result<(), Memory>
     ensures sites { OnOk result (collected collector.new ≡
-        in_first (spot_of collector.old) (constructor_invocation_node_view call.now) (collected collector.old)) }
+        in_first (spot_of collector.old) (constructor_invocation_node_view call.now)
+        (collected collector.old)) }
     ensures stays { OnOk result (spot_of collector.new ≡ spot_of collector.old) }
 {
     match call {
@@ -496,8 +509,10 @@ fn declaration<'a>(
     sort: Sort,
     is_local: bool,
 ) -> Result<(), Memory>
-    ensures sites { let number = length (collected collector.old) in OnOk result (collected collector.new ≡
-        in_declaration sort (in_own_scope is_local number (spot_of collector.old)) (declaration_view decl.now) (collected collector.old)) }
+    ensures sites { let number = length (collected collector.old) in OnOk result
+        (collected collector.new ≡
+        in_declaration sort (in_own_scope is_local number (spot_of collector.old))
+        (declaration_view decl.now) (collected collector.old)) }
     ensures stays { OnOk result (spot_of collector.new ≡ spot_of collector.old) }
 {
     let written = Written::Declared { decl };

@@ -18,9 +18,11 @@ use std::alloc::Global;
 
 /// The classes of the library, and then those of all units. There are at most as many of these as the units are large.
 pub fn walk<'a>(alloc: Global, units: &'a [Unit]) -> Result<Vec<ClassSite<'a>>, Memory>
-    ensures sites { IfOk result (λ classes. sites_of classes.items ≡ sites (map unit_view units.now)) }
+    ensures sites { IfOk result
+        (λ classes. sites_of classes.items ≡ sites (map unit_view units.now)) }
     ensures earlier { IfOk result (λ classes. NameEarlier classes.items) }
-    ensures few { IfOk result (λ classes. length classes.items ≤ 39 + units_size (map unit_view units.now)) }
+    ensures few { IfOk result
+        (λ classes. length classes.items ≤ 39 + units_size (map unit_view units.now)) }
 {
     let mut collector = Collector::new(alloc);
     library(&mut collector)?;
@@ -49,7 +51,8 @@ fn library_size() -> usize
 }
 
 fn all_units<'a>(collector: &mut Collector<'a>, units: &'a [Unit]) -> Result<(), Memory>
-    ensures { OnOk result (collected collector.new ≡ in_units 0 (map unit_view units.now) (collected collector.old)) }
+    ensures { OnOk result
+        (collected collector.new ≡ in_units 0 (map unit_view units.now) (collected collector.old)) }
 {
     for (at, unit_here) in units.iter().enumerate() {
         unit(collector, unit_here, at)?;

@@ -61,7 +61,8 @@ impl Model for Members {
 
     ghost Value = { MembersOf };
 
-    ghost view = { λ m. record { class = m.class; fields = m.fields.items; methods = m.methods.items } };
+    ghost view = { λ m. record
+        { class = m.class; fields = m.fields.items; methods = m.methods.items } };
 
     ghost invariant = { λ m. (length m.fields.items < 2 ^ 31) × (length m.methods.items < 2 ^ 31) };
 }

@@ -51,14 +51,16 @@ fn bound_variable(
 #[tactic(auto, using(je_ast::proofs::Views::type_is))]
 fn variable(program: &Program, class: ClassId, ty: &TyName) -> Result<Option<usize>, Memory>
     ensures { IfOk result (λ at. at ≡ the_variable_in class.0
-        (source_type (source_in program.now) (settled (source_in program.now)) class.0 header (type_view ty.now))) }
+        (source_type (source_in program.now) (settled (source_in program.now)) class.0 header
+        (type_view ty.now))) }
 {
     variable_here(program, class, ty)
 }
 
 fn variable_here(program: &Program, class: ClassId, ty: &TyName) -> Result<Option<usize>, Memory>
     ensures { IfOk result (λ at. at ≡ the_variable_in class.0
-        (source_type (source_in program.now) (settled (source_in program.now)) class.0 header (type_node_view ty.now))) }
+        (source_type (source_in program.now) (settled (source_in program.now)) class.0 header
+        (type_node_view ty.now))) }
 {
     match ty {
         TyName::Primitive { .. } => Ok(None),

@@ -26,7 +26,8 @@ pub fn judge_parameters(
     class: ClassId,
     faults: &mut Faults,
 ) -> Result<(), Memory>
-    ensures { OnOk result (Adds faults.old faults.new (of_parameters (source_in program.now) class.0)) }
+    ensures { OnOk result
+        (Adds faults.old faults.new (of_parameters (source_in program.now) class.0)) }
 {
     let parameters = program.sites.parameters(class);
     let next = bound_variables(program, class, parameters)?;
@@ -47,10 +48,13 @@ fn judge_parameter(
     met: &mut Met,
     faults: &mut Faults,
 ) -> Result<(), Memory>
-    ensures met { OnOk result ((x : NameId) → is_met met.new x ≡ (is_met met.old x || same_name parameter.now.name.name x)) }
+    ensures met { OnOk result
+        ((x : NameId) → is_met met.new x ≡
+        (is_met met.old x || same_name parameter.now.name.name x)) }
     ensures faults { OnOk result (Adds faults.old faults.new
         (where_so (is_met met.old parameter.now.name.name) (twice parameter.now.name.span)
-        ++ of_optional_type (source_in program.now) class.0 header (type_view_of_option parameter.now.bound)
+        ++ of_optional_type (source_in program.now) class.0 header
+        (type_view_of_option parameter.now.bound)
         ++ cycle_in_bound back (type_view_of_option parameter.now.bound))) }
 {
     let before = met.meet(parameter.name.name)?;

@@ -57,10 +57,14 @@ impl Signatures {
     ) -> Result<bool, Memory>
         requires fits { AreHeadersOf (source_of sites.now) headers.now }
         requires settled { settled (source_of sites.now) ≡ known_of headers.now }
-        ensures repeats { IfOk result (λ repeats. (earlier : List MethodSite) (m : MethodSite) → AreMet (source_of sites.now) head.entry.place.class.0 earlier self.old →
-            IsHead head.entry m → repeats ≡ list_any (same_signature (source_of sites.now) head.entry.place.class.0 m) earlier) }
-        ensures met { OnOk result ((earlier : List MethodSite) (m : MethodSite) → AreMet (source_of sites.now) head.entry.place.class.0 earlier self.old →
-            IsHead head.entry m → AreMet (source_of sites.now) head.entry.place.class.0 (earlier ++ m ∷ []) self.new) }
+        ensures repeats { IfOk result (λ repeats. (earlier : List MethodSite) (m : MethodSite) →
+            AreMet (source_of sites.now) head.entry.place.class.0 earlier self.old →
+            IsHead head.entry m → repeats ≡
+            list_any (same_signature (source_of sites.now) head.entry.place.class.0 m) earlier) }
+        ensures met { OnOk result ((earlier : List MethodSite) (m : MethodSite) →
+            AreMet (source_of sites.now) head.entry.place.class.0 earlier self.old →
+            IsHead head.entry m → AreMet (source_of sites.now) head.entry.place.class.0
+            (earlier ++ m ∷ []) self.new) }
     {
         let around = Around {
             alloc,

@@ -34,7 +34,8 @@ pub fn signature(
 ) -> Result<Vec<u128>, Memory>
     requires { HasHeaders around.now }
     ensures { IfOk result (λ list. list.items ≡
-        the_signature is_constructor name (parameters_in around.now (map formal_view formals.now))) }
+        the_signature is_constructor name
+        (parameters_in around.now (map formal_view formals.now))) }
 {
     let mut list = Vec::new(around.alloc);
     list.push(is_constructor as u128)?;
@@ -45,7 +46,8 @@ pub fn signature(
 
 fn spell_formals(around: &Around, list: &mut Vec<u128>, formals: &[Formal]) -> Result<(), Memory>
     requires { HasHeaders around.now }
-    ensures { OnOk result (list.new.items ≡ list.old.items ++ all_spelled (parameters_in around.now (map formal_view formals.now))) }
+    ensures { OnOk result (list.new.items ≡
+        list.old.items ++ all_spelled (parameters_in around.now (map formal_view formals.now))) }
 {
     for formal in formals {
         list.push(1)?;
@@ -103,7 +105,8 @@ fn spell_class(
 ) -> Result<(), Memory>
     requires { HasHeaders around.now }
     ensures { OnOk result (list.new.items ≡ list.old.items ++ spelled
-        (type_for (source_in around.now) (look_in around.now (name_view name.now)) (count (type_views_of args.now)) (types_in around.now (type_views_of args.now)) dims)) }
+        (type_for (source_in around.now) (look_in around.now (name_view name.now))
+        (count (type_views_of args.now)) (types_in around.now (type_views_of args.now)) dims)) }
 {
     let parts = name.parts.as_slice();
     let meant = around
@@ -123,7 +126,8 @@ fn spell_named(
 ) -> Result<(), Memory>
     requires { HasHeaders around.now }
     ensures { OnOk result (list.new.items ≡ list.old.items ++ spelled
-        (type_for (source_in around.now) (look_view look) (count (type_views_of args.now)) (types_in around.now (type_views_of args.now)) dims)) }
+        (type_for (source_in around.now) (look_view look) (count (type_views_of args.now))
+        (types_in around.now (type_views_of args.now)) dims)) }
 {
     match look {
         Look::Class(class) => {

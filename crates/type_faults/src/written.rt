@@ -25,7 +25,8 @@ impl Program<'_> {
         faults: &mut Faults,
     ) -> Result<(), Memory>
         ensures { OnOk result (Adds faults.old faults.new
-            (of_name (source_in self.now) place.class.0 (part_view place.part) (name_view name.now) arguments)) }
+            (of_name (source_in self.now) place.class.0 (part_view place.part)
+            (name_view name.now) arguments)) }
     {
         let parts = name.parts.as_slice();
         let meant = self.headers.meaning(self.alloc, self.sites, place, parts)?;
@@ -37,7 +38,8 @@ impl Program<'_> {
 
     // Finds the fault of a name that means this.
     fn judge_meaning(&self, look: Look, arguments: usize, span: Span, faults: &mut Faults)
-        ensures { Adds faults.old faults.new (by_meaning (source_in self.now) (look_view look) arguments span) }
+        ensures { Adds faults.old faults.new
+            (by_meaning (source_in self.now) (look_view look) arguments span) }
     {
         match look {
             Look::Class(class) => {
@@ -66,7 +68,8 @@ impl Program<'_> {
     #[cycle(types)]
     fn judge_type_here(&self, place: Place, ty: &TyName, faults: &mut Faults) -> Result<(), Memory>
         ensures { OnOk result (Adds faults.old faults.new
-            (of_type (source_in self.now) place.class.0 (part_view place.part) (type_node_view ty.now))) }
+            (of_type (source_in self.now) place.class.0 (part_view place.part)
+            (type_node_view ty.now))) }
     {
         match ty {
             TyName::Primitive { .. } => Ok(()),
@@ -80,7 +83,8 @@ impl Program<'_> {
     #[cycle(types)]
     fn judge_types(&self, place: Place, types: &[TyName], faults: &mut Faults) -> Result<(), Memory>
         ensures { OnOk result (Adds faults.old faults.new
-            (of_types (source_in self.now) place.class.0 (part_view place.part) (type_views_of types.now))) }
+            (of_types (source_in self.now) place.class.0 (part_view place.part)
+            (type_views_of types.now))) }
     {
         for ty in types {
             self.judge_type(place, ty, faults)?;
@@ -96,7 +100,8 @@ impl Program<'_> {
         faults: &mut Faults,
     ) -> Result<(), Memory>
         ensures { OnOk result (Adds faults.old faults.new
-            (of_optional_type (source_in self.now) place.class.0 (part_view place.part) (type_view_of_option ty.now))) }
+            (of_optional_type (source_in self.now) place.class.0 (part_view place.part)
+            (type_view_of_option ty.now))) }
     {
         match ty {
             Some(ty) => self.judge_type(place, ty, faults),
