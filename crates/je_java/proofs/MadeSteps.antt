@@ -1,5 +1,5 @@
 -- One lemma for each step that is made of others.
-use Rattle.std.proofs.Common.{ℕ, List, length, subst, arith}
+use Rattle.std.proofs.Common.{ℕ, List, length, Some, refl, subst, arith}
 use Rattle.je_core.specs.declared.types.ClassId.{ClassId}
 use Rattle.je_core.specs.declared.types.Ty.{Ty}
 use Rattle.je_core.specs.declared.value.Value.{Value}
@@ -9,14 +9,15 @@ use Rattle.je_core.specs.declared.expr.UnOp.{UnOp}
 use Rattle.je_core.specs.Core.{CoreProgram}
 use Rattle.je_java.specs.Equality.{operated}
 use Rattle.je_java.specs.Compound.{placed_outcome, update_outcome}
-use Rattle.je_java.specs.Classes.{class_at}
-use Rattle.je_java.specs.Steps.{Computation, charge, constant, make, make_text, raise, deref, throw_value, computed, binary, updated, unary, converted_in, convert, is_instance, cast, branch, read_field, write_field, read_static, write_static, read_text}
+use Rattle.je_classes.specs.Hierarchy.{class_at}
+use Rattle.je_classes.specs.Slots.{slot_fields}
+use Rattle.je_java.specs.Steps.{Computation, charge, constant, make, make_text, raise, deref, throw_value, computed, binary, updated, unary, converted_in, convert, is_instance, cast, admit, branch, read_field, write_field, read_static, write_static, read_text}
 use Rattle.je_arith.specs.declared.outcome.Outcome.{Outcome}
 use Rattle.je_arith.specs.declared.outcome.Outcome.TheVariants.{Gives, ByZero, Unfit}
 use Rattle.je_arith.specs.Operators as operators
 use Rattle.je_java.proofs.Plain.{PlainOutcome, operated-plain, unary-plain, converted-plain, update-plain}
 use Rattle.je_java.proofs.Pairs.{Parts, OptionRel, Paired, ValueRel, bool, byte, short, char, int, long, null, ref, instance, text, Rel, Laws, Equal, Values, length-both}
-use Rattle.je_java.proofs.Combinators.{paired-more, value-more, values-more, rel-ret, rel-bind, rel-wrong, rel-throw, rel-need, equal-option, rel-if, bind_pair, bind_equal, seq_end}
+use Rattle.je_java.proofs.Combinators.{paired-more, value-more, values-more, rel-ret, rel-bind, rel-wrong, rel-throw, rel-need, equal-option, rel-if, bind_pair, bind_equal, seq_value, seq_end}
 use Rattle.je_java.proofs.Outcomes.{fresh-both, plain-both, operated-both, compound-both, plain-option, unary-both, converted-both}
 use Rattle.je_java.proofs.StepsRelated.{rel-charge, rel-get_type, rel-get_slot, rel-put_slot, rel-get_static, rel-put_static, rel-new_object}
 
@@ -34,7 +35,7 @@ module _ {R : Parts} (L : Laws R) where
 
   pub rel-make : {k : ℕ} (program : CoreProgram) (class : ClassId) → Rel R k (Paired R) (make program class) (make program class)
   unfolding make
-  rel-make program class = rel-bind {P = Values R} (rel-need L (fresh-both (class_at program class))) λ i l vs ws q.
+  rel-make program class = rel-bind {P = Values R} (rel-need L (fresh-both (slot_fields program (Some class)) (class_at program class))) λ i l vs ws q.
       seq_end (subst (λ n. Rel R i Equal (charge (length vs)) (charge n)) (length-both q) (rel-charge L (length vs))) λ j l'. rel-new_object L (instance (values-more L l' q))
 
   pub rel-make_text : {k : ℕ} (units : List ℕ) → Rel R k (Paired R) (make_text units) (make_text units)
@@ -107,6 +108,17 @@ module _ {R : Parts} (L : Laws R) where
   rel-cast program ty long = rel-wrong L
   rel-cast program ty null = rel-ret _ _ null
   rel-cast program ty (ref p) = bind_equal (rel-get_type L p) λ i l own. rel-if _ (rel-ret _ _ (ref (paired-more L l p))) (rel-raise program _)
+
+  pub rel-admit : {k : ℕ} {v w : Value} (program : CoreProgram) (ty : Ty) → ValueRel R k v w → Rel R k Equal (admit program ty v) (admit program ty w)
+  unfolding admit
+  rel-admit program ty bool = rel-ret _ _ refl
+  rel-admit program ty byte = rel-ret _ _ refl
+  rel-admit program ty short = rel-ret _ _ refl
+  rel-admit program ty char = rel-ret _ _ refl
+  rel-admit program ty int = rel-ret _ _ refl
+  rel-admit program ty long = rel-ret _ _ refl
+  rel-admit program ty null = rel-ret _ _ refl
+  rel-admit program ty (ref p) = seq_value (rel-cast program ty (ref p)) λ i l. rel-ret _ _ refl
 
   pub rel-branch : {A : Type 0} {Q : ℕ → A → A → Type 0} {k : ℕ} {v w : Value} {m n m' n' : Computation A} → ValueRel R k v w → Rel R k Q m n → Rel R k Q m' n' → Rel R k Q (branch v m m') (branch w n n')
   unfolding branch

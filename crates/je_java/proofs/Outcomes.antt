@@ -16,7 +16,8 @@ use Rattle.je_arith.specs.Conversion.{number_of, as_base_if}
 use Rattle.je_core.specs.Core.{CoreField, CoreMethod, CoreClass}
 use Rattle.je_java.specs.Equality.{same_reference, on_references, operated}
 use Rattle.je_java.specs.Compound.{promoted, joined, compound}
-use Rattle.je_java.specs.Classes.{fresh_in, locals_for}
+use Rattle.je_classes.specs.Slots.{begin_as}
+use Rattle.je_java.specs.Classes.{locals_for}
 use Rattle.je_java.specs.Steps.{converted_in}
 use Rattle.je_arith.specs.declared.outcome.Outcome.TheVariants.{Unfit}
 use Rattle.je_arith.specs.Operators as operators
@@ -81,9 +82,9 @@ module _ {R : Parts} where
   local-defaults [] = nil
   local-defaults (local ∷ locals) = cons (default-both local.ty) (local-defaults locals)
 
-  pub fresh-both : {k : ℕ} (class : Option CoreClass) → OptionRel (Values R k) (fresh_in class) (fresh_in class)
-  fresh-both None = none
-  fresh-both (Some class) = some (field-defaults _)
+  pub fresh-both : {k : ℕ} (fields : List CoreField) (class : Option CoreClass) → OptionRel (Values R k) (begin_as fields class) (begin_as fields class)
+  fresh-both fields None = none
+  fresh-both fields (Some class) = some (field-defaults fields)
 
   pub plain-both : {k : ℕ} (v : Value) → IsPlain v → ValueRel R k v v
   plain-both (value.Bool b) h = bool

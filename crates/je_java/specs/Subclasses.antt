@@ -2,7 +2,7 @@
 use Rattle.std.specs.Prelude.{ℕ, zero, suc, length, Option, Some, None, Bool, true, false, nat_eq, if◌then◌else◌}
 use Rattle.je_core.specs.declared.types.ClassId.{ClassId}
 use Rattle.je_core.specs.Core.{CoreClass, CoreProgram}
-use Rattle.je_java.specs.Classes.{class_at}
+use Rattle.je_classes.specs.Hierarchy.{class_at}
 
 abbrev pub superclass_in : Option CoreClass → Option ClassId
 superclass_in None = None

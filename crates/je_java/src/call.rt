@@ -1,4 +1,4 @@
-// What a call names, and what it comes to.
+// What a call is made on.
 
 use je_core::{ClassId, ObjId};
 
@@ -11,13 +11,4 @@ pub enum Receiver {
     Object(ObjId),
     /// A new instance of the class, whose constructor the method is. The call answers that object.
     Fresh,
-}
-
-/// The method that a call comes to.
-#[derive(Clone, Copy, PartialEq, Eq, Debug)]
-pub struct Target {
-    /// The class that declares it.
-    pub class: ClassId,
-    /// Its place among those that the class declares.
-    pub method: u32,
 }
