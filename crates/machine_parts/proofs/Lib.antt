@@ -4,4 +4,5 @@ pub mod Fields
 pub mod Subclasses
 pub mod Results
 pub mod Shapes
+pub mod Slots
 pub mod Variables

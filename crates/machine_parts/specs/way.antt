@@ -2,3 +2,4 @@
 pub mod Opened
 pub mod Clauses
 pub mod Shapes
+pub mod Slots

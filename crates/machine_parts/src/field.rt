@@ -1,6 +1,7 @@
 // Reads and writes of fields and locals.
 
-ghost use Rattle.std.specs.Prelude.{◌≡◌, ◌≤◌, ◌+◌, IfOk};
+ghost use Rattle.std.specs.Prelude.{◌≡◌, ◌≤◌, ◌<◌, ◌+◌, ◌^◌, IfOk, IsSome};
+ghost use Rattle.je_java.specs.World.{slot_of};
 ghost use Rattle.machine_parts.specs.way.Clauses.{GoesToValue, GoesAheadIn};
 ghost use Rattle.je_java.specs.Steps.{put_local, read_field as the_read_field, write_field as the_write_field};
 ghost use Rattle.machine_parts.specs.Ways.{valued, height, gives};
@@ -8,8 +9,23 @@ ghost use Rattle.machine_parts.specs.Ways.{valued, height, gives};
 use crate::class::field_slot;
 use crate::frame::{Context, Control, Env};
 use crate::make::raise_null_pointer;
-use je_core::{ClassId, Memory, Program, Value};
+use je_core::{ClassId, Memory, ObjId, Program, Value};
 use je_heap::Heap;
+
+/// The value in a slot of an object; None exactly where there is no such object or no such slot.
+pub fn slot(heap: &Heap, object: ObjId, at: u128) -> Option<Value>
+    ensures value { result ≡ slot_of heap.now.world.objects object.0 at }
+    ensures bound { IsSome result → at < 2 ^ 64 }
+{
+    let Some(shape) = heap.shape(object) else {
+        return None;
+    };
+    if at < shape.len as u128 {
+        heap.slot(object, at as u64)
+    } else {
+        None
+    }
+}
 
 /// The value of a field of an object.
 pub fn read_field(
@@ -27,10 +43,10 @@ pub fn read_field(
 {
     match object {
         Value::Ref(id) => {
-            let Some(slot) = field_slot(program, class, field) else {
+            let Some(at) = field_slot(program, class, field) else {
                 return Ok(Control::Wrong);
             };
-            match heap.slot(id, slot) {
+            match slot(heap, id, at) {
                 Some(value) => Ok(Control::Give(value)),
                 None => Ok(Control::Wrong),
             }
@@ -57,13 +73,13 @@ pub fn write_field(
 {
     match object {
         Value::Ref(id) => {
-            let Some(slot) = field_slot(program, class, field) else {
+            let Some(at) = field_slot(program, class, field) else {
                 return Ok(Control::Wrong);
             };
-            if heap.slot(id, slot).is_none() {
+            if slot(heap, id, at).is_none() {
                 return Ok(Control::Wrong);
             }
-            heap.set(id, slot, value)?;
+            heap.set(id, at as u64, value)?;
             Ok(Control::Give(value))
         }
         Value::Null => raise_null_pointer(context, heap, program),

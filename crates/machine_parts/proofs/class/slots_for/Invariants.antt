@@ -2,7 +2,7 @@ use Rattle.std.proofs.Common.{◌≡◌, ◌≤◌, ◌+◌, ℕ, drop, map}
 use Rattle.std.specs.Prelude.{cond, count_by, fold}
 use Rattle.je_core.specs.Core.{CoreField}
 use Rattle.je_core.specs.View.{field_view}
-use Rattle.je_java.specs.Classes.{is_instance}
+use Rattle.je_classes.specs.Slots.{is_instance}
 use Rattle.machine_parts.proofs.class.slots_for.Given as goal
 
 abbrev pub invariant-loop-field : goal.invariant-loop-field
