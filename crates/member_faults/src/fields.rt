@@ -29,7 +29,8 @@ use type_faults::Program;
 /// fault (JLS 8.3, 8.9, 9.3).
 pub fn judge_fields(program: &Program, class: ClassId, faults: &mut Faults) -> Result<(), Memory>
     ensures { OnOk result (Adds faults.old faults.new
-        (of_fields (source_in program.now) class.0 [] (fields_of (source_in program.now) class.0))) }
+        (of_fields (source_in program.now) class.0 []
+        (fields_of (source_in program.now) class.0))) }
 {
     let written = program.sites.written(class);
     let mut met = Met::none(program.alloc);

@@ -29,7 +29,8 @@ pub fn judge_imports(
 ) -> Result<(), Memory>
     requires { (source_of sites.now).imports ≡ map imports_of (map unit_view units.now) }
     ensures { OnOk result (Adds faults.old faults.new
-        (flat_map (fault.of_imports (source_of sites.now).texts []) (source_of sites.now).imports)) }
+        (flat_map (fault.of_imports (source_of sites.now).texts [])
+        (source_of sites.now).imports)) }
 {
     for (at, unit) in units.iter().enumerate() {
         judge_unit(alloc, sites, at, &unit.imports, faults)?;

@@ -60,7 +60,8 @@ impl Program<'_> {
     #[tactic(auto, using(je_ast::proofs::Views::type_is))]
     pub fn judge_type(&self, place: Place, ty: &TyName, faults: &mut Faults) -> Result<(), Memory>
         ensures { OnOk result (Adds faults.old faults.new
-            (of_type (source_in self.now) place.class.0 (part_view place.part) (type_view ty.now))) }
+            (of_type (source_in self.now) place.class.0 (part_view place.part)
+            (type_view ty.now))) }
     {
         self.judge_type_here(place, ty, faults)
     }
