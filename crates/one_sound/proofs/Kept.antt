@@ -14,7 +14,8 @@ use Rattle.je_core.specs.declared.value.Value.{Value}
 use Rattle.je_core.specs.declared.value.Value.TheVariants.{Int, Null, Ref}
 use Rattle.je_arith.specs.declared.outcome.Outcome.TheVariants.{Gives}
 use Rattle.je_arith.specs.Operators.{binary as binary_outcome}
-use Rattle.je_java.specs.Classes.{field_slot, fresh_slots, locals_for}
+use Rattle.je_classes.specs.Slots.{field_slot, fresh_slots}
+use Rattle.je_java.specs.Classes.{locals_for}
 use Rattle.je_java.specs.Steps.{Own, Computation, get_this, get_local, put_local, make, binary, read_field, write_field}
 use Rattle.one_program.specs.Conditions.{is_operator}
 use Rattle.one_program.specs.Elaboration.{one_class}

@@ -6,6 +6,7 @@ pub mod Kept
 pub mod Sound
 pub mod Names
 pub mod Typed
+mod Dispatching
 pub mod Program
 pub mod NeverWrong
 mod Rows

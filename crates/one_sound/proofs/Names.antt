@@ -39,7 +39,7 @@ place_of-within x (y ∷ ys) number e = place-cases (same_name x y) (place_of x 
     (λ n h k. let below : n < length ys = place_of-within x ys n h in omega arith)
 
 -- a name that is none of these is none of those behind the first, and isn't the first
-IsNot-cases : {P : Type 0} (first : Bool) (behind : Option ℕ) →
+pub IsNot-cases : {P : Type 0} (first : Bool) (behind : Option ℕ) →
     (if first then Some 0 else option_map suc behind) ≡ None → (first ≡ false → behind ≡ None → P) → P
 IsNot-cases true behind e p = absurd (cc)
 IsNot-cases false None e p = p refl refl

@@ -2,7 +2,7 @@
 use Rattle.std.proofs.Common.{◌≡◌, ℕ, List, [], length, refl, arith}
 use Rattle.std.specs.Prelude.{◌≢◌, ℤ, Bool, true, false, Option, Some, slice_get}
 use Rattle.std.proofs.lemmas.List.Elements.{All-nil}
-use Rattle.je_core.specs.Core.{CoreProgram}
+use Rattle.je_core.specs.Core.{CoreMethod, CoreProgram}
 use Rattle.je_base.specs.declared.span.NameId.{NameId}
 use Rattle.je_core.specs.declared.value.ObjId.{ObjId}
 use Rattle.je_core.specs.declared.value.Value.{Value}
@@ -21,9 +21,10 @@ use Rattle.one_sound.specs.Fitting.{new_world, no_outside, IsReceiver, of_static
 use Rattle.one_sound.specs.Replies.{Replies, an_int, units_spent}
 use Rattle.one_sound.proofs.Kept.{invariant}
 use Rattle.one_sound.proofs.Program.{program-typed}
-use Rattle.one_sound.proofs.Safe.{Safe, safe-need, safe-bind, safe-ret, safe-get_class}
+use Rattle.one_sound.proofs.Dispatching.{types-same}
+use Rattle.one_sound.proofs.Safe.{Safe, Any, safe-need, safe-bind, safe-seq, safe-ret, safe-get_class}
 use Rattle.one_sound.proofs.Sound.{java_keeps, keeps-method}
-use Rattle.one_sound.proofs.Typing.{Context, ProgramTyped}
+use Rattle.one_sound.proofs.Typing.{Context, MethodTyped, ProgramTyped}
 use Rattle.one_sound.proofs.Values.{IsInt, Ints, IsOwnObject, Holds, an_object, class_at_object, no_more}
 
 -- the context of a call whose caller has nothing of its own
@@ -39,14 +40,12 @@ abbrev Whole : {A : Type 0} → ℕ → ℕ → (ℕ → A → Type 0) → Compu
 Whole fields count Q m = Safe (invariant fields) (λ t value. ⊥) count outside outside Q m
 
 module _ {members : Members} {program : CoreProgram} (p : ProgramTyped members program) where
-  replied-keeps : {count arity : ℕ} {x : NameId} {is_static : Bool} (number : ℕ) (this : Value) (given : List Value) →
-      slice_get members.methods number ≡ Some (record { name = x; is_static = is_static; arity = arity }) → Ints arity given →
+  replied-keeps : {count arity : ℕ} {x : NameId} {is_static : Bool} (method : CoreMethod) (this : Value) (given : List Value) →
+      MethodTyped members (record { name = x; is_static = is_static; arity = arity }) method → Ints arity given →
       (is_static ≡ false → Holds object count this) →
-      Whole (length members.fields) count IsReply (replied program (java program) (record { class = one_class; method = number }) this given)
-  replied-keeps number this given e q r =
-      let found = p.method number _ e in
-      safe-need _ found.1 (safe-bind (keeps-method (java_keeps p) found.0 this given found.2 q r) λ u l value h.
-      rw found.2.returns (safe-ret _ (of_int h)))
+      Whole (length members.fields) count IsReply (replied (java program) method this given)
+  replied-keeps method this given f q r = safe-bind (keeps-method (java_keeps p) method this given f q r) λ u l value h.
+      rw f.returns (safe-ret _ (of_int h))
     where
       of_int : {count : ℕ} {value : Value} → Holds int count value → IsReply count (Some value)
       of_int Holds.an_int = is_reply
@@ -56,10 +55,14 @@ module _ {members : Members} {program : CoreProgram} (p : ProgramTyped members p
       IsReceiver count is_static receiver → Ints arity given →
       Whole (length members.fields) count IsReply (call_by program (java program) receiver one_class number given)
   unfolding call_by
-  call-keeps number _ given e of_static q = replied-keeps number Null given e q λ h. absurd (cc)
+  call-keeps number _ given e of_static q =
+      let found = p.method number _ e in
+      safe-need _ found.1 (replied-keeps found.0 Null given found.2 q λ h. absurd (cc))
   call-keeps number _ given e (of_instance {o = o} b) q =
+      let found = p.method number _ e in
       let class = safe-get_class {Q = λ u own. own ≡ one_class} o one_class (λ objects r. class_at_object o.0 b r) refl in
-      safe-bind class λ u l own h. rw h (safe-need _ refl (replied-keeps number (Ref o) given e q λ z. an_object (omega arith)))
+      safe-bind class λ u l own h. rw h (safe-need _ found.1 (safe-need _ (p.own_method number _ found.0 e refl found.1)
+      (rw (types-same found.0.params) (safe-seq {P = Any} (safe-ret tt (record {})) λ v k. replied-keeps found.0 (Ref o) given found.2 q λ z. an_object (omega arith)))))
 
 done : {count : ℕ} {reply : Option Value} (s : State) → IsReply count reply → Replies (Done reply s)
 done s is_reply = an_int

@@ -3,18 +3,18 @@ use Rattle.std.proofs.Common.{◌≡◌, ℕ, zero, suc, ◌+◌, ◌<◌, ◌�
 use Rattle.std.specs.Prelude.{Bool, fold, filter, count_by, slice_get, codes, if◌then◌else◌}
 use Rattle.std.proofs.lemmas.List.{length-map}
 use Rattle.std.proofs.lemmas.List.Elements.{All-nil, All-cons}
-use Rattle.std.proofs.lemmas.Option.{same_Some}
 use Rattle.je_base.specs.declared.span.NameId.{NameId}
 use Rattle.je_base.specs.Names.{number_of}
 use Rattle.je_core.specs.Core.{CoreField, CoreStmt, CoreMethod, CoreProgram}
 use Rattle.je_core.proofs.Views.{stmt_list_of_core_stmts}
 use Rattle.je_core.specs.Defaults.{default_of}
-use Rattle.je_java.specs.Classes.{is_instance, slot_after}
+use Rattle.je_classes.specs.Slots.{is_instance, slot_after, slot_fields, fresh_slots, field_slot}
 use Rattle.one_syntax.specs.Trees.{ExprTree, StatementTree, MemberTree, field, method, OneTree}
 use Rattle.one_program.specs.declared.scope.Head.{Head}
 use Rattle.one_program.specs.Scope.{Members, members_of, fields_of, heads_of, scope_of, objects_of}
 use Rattle.one_program.specs.Conditions.{BodyFits, MembersFit, Fits}
-use Rattle.one_program.specs.Elaboration.{block, locals_of, declared, core_method, methods_of, default_constructor, int_field, program_of}
+use Rattle.one_program.specs.Elaboration.{block, locals_of, declared, core_method, methods_of, default_constructor, int_field, one_class, program_with, program_of}
+use Rattle.one_sound.proofs.Dispatching.{MethodsTyped, method-found, slice_get-front, dispatch-found}
 use Rattle.one_sound.proofs.Gives.{Gives, nothing, gives, gives-next, given}
 use Rattle.one_sound.proofs.Names.{AreBarred-themselves, ObjectsBarred-params}
 use Rattle.one_sound.proofs.Typed.{body-typed, locals_within, context_of, behind}
@@ -35,7 +35,8 @@ method-typed {members = members} is_static x params body result f =
     let count : length (map int_local params) ≡ length params = length-map params int_local in
     let within : length scope.locals ≤ length locals = locals_within scope body in
     gives-next (body-typed body result room (ObjectsBarred-params params) (AreBarred-themselves (objects_of body)) (omega arith) f) λ parts fs. gives (record {
-      flag = refl;
+      name = refl;
+      flags = refl;
       returns = refl;
       params = params;
       arity = refl;
@@ -46,23 +47,11 @@ method-typed {members = members} is_static x params body result f =
       fits = block-typed fs;
     })
 
--- the methods of a class, each for its head
-data MethodsTyped (members : Members) : List Head → List CoreMethod → Type 0 where
-  none : MethodsTyped members [] []
-  more : {head : Head} {heads : List Head} {m : CoreMethod} {ms : List CoreMethod} → MethodTyped members head m → MethodsTyped members heads ms →
-      MethodsTyped members (head ∷ heads) (m ∷ ms)
-
 methods-typed : {members : Members} (names : List (List ℕ)) (ms : List MemberTree) → MembersFit names members ms → Gives (MethodsTyped members (heads_of ms)) (methods_of members ms)
 methods-typed names [] f = gives MethodsTyped.none
 methods-typed names (field x ∷ ms) f = methods-typed names ms f.1
 methods-typed names (method is_static x params body result ∷ ms) f =
     gives-next (method-typed is_static x params body result f.0.2) λ first p. gives-next (methods-typed names ms f.1) λ further ps. gives (MethodsTyped.more p ps)
-
-method-found : {members : Members} {heads : List Head} {made : List CoreMethod} → MethodsTyped members heads made → (number : ℕ) (head : Head) → slice_get heads number ≡ Some head →
-    (method : CoreMethod) × (slice_get made number ≡ Some method) × MethodTyped members head method
-method-found MethodsTyped.none number head e = absurd (cc)
-method-found {members = members} (MethodsTyped.more {m = m} p ps) zero head e = (m, refl, subst (λ h. MethodTyped members h m) (same_Some _ _ e) p)
-method-found (MethodsTyped.more p ps) (suc number) head e = method-found ps number head e
 
 methods-length : {members : Members} {heads : List Head} {made : List CoreMethod} → MethodsTyped members heads made → length heads ≡ length made
 methods-length MethodsTyped.none = refl
@@ -96,16 +85,36 @@ own_slot : (xs : List NameId) (number : ℕ) → number < length xs →
     slot_after (slice_get (map int_field xs) number) (count_by is_instance (take number (map int_field xs))) ≡ Some number
 own_slot xs number h = rw (field-at xs number h).1 (ap Some (slots-before xs number 0 h ∙ omega arith))
 
--- a list's element stays at its place where a list follows, and what follows begins where it ends
-slice_get-front : {A : Type 0} {x : A} (xs ys : List A) (at : ℕ) → slice_get xs at ≡ Some x →
-    slice_get (xs ++ ys) at ≡ Some x
-slice_get-front [] ys at e = absurd (cc)
-slice_get-front (x ∷ xs) ys zero e = e
-slice_get-front (x ∷ xs) ys (suc at) e = slice_get-front xs ys at e
-
+-- what follows a list begins where it ends
 slice_get-seam : {A : Type 0} (xs ys : List A) (y : A) → slice_get (xs ++ y ∷ ys) (length xs) ≡ Some y
 slice_get-seam [] ys y = refl
 slice_get-seam (x ∷ xs) ys y = slice_get-seam xs ys y
+
+-- it is the method of that number of those in front
+at-front : {members : Members} {heads : List Head} {made : List CoreMethod} (rest : List CoreMethod) → MethodsTyped members heads made → (number : ℕ) (head : Head) (k : CoreMethod) →
+    slice_get heads number ≡ Some head → slice_get (made ++ rest) number ≡ Some k → slice_get made number ≡ Some k
+at-front {made = made} rest fs number head k e m =
+    let found = method-found fs number head e in
+    found.1 ∙ sym (slice_get-front made rest number found.1) ∙ m
+
+-- no class is above the one
+module _ (x : NameId) (fields : List CoreField) (methods : List CoreMethod) (new : NameId) where
+  its-slots : slot_fields (program_with x fields methods new) (Some one_class) ≡ filter is_instance fields
+  unfolding slot_fields
+  its-slots = refl
+
+  none-above : slot_fields (program_with x fields methods new) None ≡ []
+  unfolding slot_fields
+  none-above = refl
+
+  its-fresh : fresh_slots (program_with x fields methods new) one_class ≡ Some (map (λ (f : CoreField). default_of f.ty) (filter is_instance fields))
+  its-fresh = ap (λ fs. Some (map (λ (f : CoreField). default_of f.ty) fs)) its-slots
+
+  its-slot : (number : ℕ) → field_slot (program_with x fields methods new) one_class number ≡ slot_after (slice_get fields number) (count_by is_instance (take number fields))
+  its-slot number =
+      let before = count_by is_instance (take number fields) in
+      let same : 0 + before ≡ before = omega arith in
+      ap (λ fs. slot_after (slice_get fields number) (length fs + before)) none-above ∙ ap (λ n. slot_after (slice_get fields number) n) same
 
 -- a One that fits comes to a program that is well typed
 pub program-typed : (names all_names : List (List ℕ)) (one : OneTree) {program : CoreProgram} → Fits names one → program_of all_names one ≡ Some program →
@@ -115,9 +124,10 @@ program-typed names all_names one fits e = given typed e
     typed : Gives (ProgramTyped (members_of one)) (program_of all_names one)
     typed = gives-next (methods-typed names one.members fits.members) λ methods fs. gives-next (given-any (number_of all_names (codes "new"))) λ new t. gives (record {
       slots = _;
-      fresh = refl;
+      fresh = its-fresh one.name (map int_field (fields_of one.members)) methods new;
       are_ints = fresh-ints (fields_of one.members);
-      slot = λ number h. own_slot (fields_of one.members) number h;
+      slot = λ number h. its-slot one.name (map int_field (fields_of one.members)) methods new number ∙ own_slot (fields_of one.members) number h;
       method = λ number head e. let found = method-found fs number head e in (found.0, slice_get-front methods _ number found.1, found.2);
+      own_method = λ number head k e s m. dispatch-found one.name (map int_field (fields_of one.members)) new fs fits.methods number head k e s (at-front (default_constructor new ∷ []) fs number head k e m);
       constructor = (default_constructor new, rw (methods-length fs) (slice_get-seam methods [] (default_constructor new)), constructor-typed new);
     })

@@ -10,7 +10,8 @@ use Rattle.je_core.specs.declared.types.ClassId.{ClassId}
 use Rattle.je_core.specs.declared.value.ObjId.{ObjId}
 use Rattle.je_core.specs.declared.value.Value.{Value}
 use Rattle.je_core.specs.declared.value.Value.TheVariants.{Int, Ref}
-use Rattle.je_java.specs.Classes.{fresh_slots, field_slot, locals_for}
+use Rattle.je_classes.specs.Slots.{fresh_slots, field_slot}
+use Rattle.je_java.specs.Classes.{locals_for}
 use Rattle.je_java.specs.World.{class_of, slot_of, with_slot, units_of, held_by, with_units_at}
 use Rattle.je_arith.specs.declared.outcome.Outcome.TheVariants.{Gives}
 use Rattle.je_arith.specs.Operators.{binary as binary_outcome}

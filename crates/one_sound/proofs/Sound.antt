@@ -13,6 +13,7 @@ use Rattle.one_program.specs.Elaboration.{one_class}
 use Rattle.one_program.specs.declared.scope.Sort.{Sort}
 use Rattle.one_program.specs.declared.scope.Sort.TheVariants.{Int as int, Object as object}
 use Rattle.one_program.specs.Scope.{Members}
+use Rattle.one_sound.proofs.Dispatching.{types-same}
 use Rattle.one_sound.proofs.Safe.{Safe, Any, safe-ret, safe-bind, safe-seq, safe-yields, safe-need, safe-spent, safe-leave, safe-tick, safe-deref, safe-get_class, safe-run_method}
 use Rattle.one_sound.proofs.Values.{IsInt, Ints, Ints-push, Holds, an_int, an_object, Holds-later, class_at_object}
 use Rattle.one_sound.proofs.Typing.{Context, ExprTyped, FormTyped, AllTyped, StmtTyped, StmtsTyped, MethodTyped, ConstructorTyped, ProgramTyped}
@@ -85,7 +86,7 @@ module _ {members : Members} {program : CoreProgram} (p : ProgramTyped members p
       Keeps (length members.fields) t c c (Holds int) (run_exact program m one_class number Null given)
   keeps-run_exact number given e q =
       let found = p.method number _ e in
-      safe-need _ found.1 (rw found.2.flag (keeps-method g found.0 Null given found.2 q λ h. absurd (cc)))
+      safe-need _ found.1 (rw found.2.flags (keeps-method g found.0 Null given found.2 q λ h. absurd (cc)))
 
   keeps-run_virtual : {c : Context} {t : ℕ} {x : NameId} {arity : ℕ} {this : Value} (number : ℕ) (given : List Value) →
       slice_get members.methods number ≡ Some (record { name = x; is_static = false; arity = arity }) →
@@ -95,7 +96,8 @@ module _ {members : Members} {program : CoreProgram} (p : ProgramTyped members p
       let found = p.method number _ e in
       let class = safe-get_class {Q = λ u own. own ≡ one_class} o one_class (λ objects r. class_at_object o.0 b r) refl in
       safe-deref program o _ (safe-bind class λ u l own h.
-      rw h (safe-need _ refl (safe-need _ found.1 (keeps-method g found.0 (Ref o) given found.2 q λ z. an_object (omega arith)))))
+      rw h (safe-need _ found.1 (safe-need _ (p.own_method number _ found.0 e refl found.1)
+      (rw (types-same found.0.params) (safe-seq {P = Any} (safe-ret tt (record {})) λ v k. keeps-method g found.0 (Ref o) given found.2 q λ z. an_object (omega arith))))))
 
   keeps-run_new : {c : Context} {t : ℕ} →
       Keeps (length members.fields) t c c (Holds object) (run_new program m one_class (length members.methods) [] [])

@@ -10,9 +10,10 @@ use Rattle.je_core.specs.declared.value.Value.{Value}
 use Rattle.je_core.specs.declared.value.Value.TheVariants.{Int}
 use Rattle.je_core.specs.Core.{Core, CoreForm, Const, Local, This, Field, Assign, Binary, CallVirtual, CallExact, New, Cores, CoreStmt, CoreStmts, Block, Do, Return, CoreMethod, CoreProgram, node, stmt, no_core, list_of, stmt_list_of}
 use Rattle.je_core.specs.Core as core
-use Rattle.je_java.specs.Classes.{method_at, fresh_slots, field_slot}
+use Rattle.je_classes.specs.Slots.{fresh_slots, field_slot}
+use Rattle.je_java.specs.Classes.{method_at, method_for}
 use Rattle.one_program.specs.Conditions.{is_operator}
-use Rattle.one_program.specs.Elaboration.{one_class, int_type}
+use Rattle.one_program.specs.Elaboration.{one_class, int_type, flags_of}
 use Rattle.one_program.specs.declared.scope.Head.{Head}
 use Rattle.one_program.specs.declared.scope.Sort.{Sort}
 use Rattle.one_program.specs.declared.scope.Sort.TheVariants.{Int as int, Object as object}
@@ -88,7 +89,8 @@ begins is_static params method = record { is_static = is_static; locals = map in
 
 -- a method of a One whose head is this
 pub record MethodTyped (members : Members) (head : Head) (method : CoreMethod) : Type 0 where
-  pub flag : method.flags.is_static ≡ head.is_static
+  pub name : method.name ≡ head.name
+  pub flags : method.flags ≡ flags_of head.is_static
   pub returns : method.returns ≡ int_type
   pub params : List NameId
   pub arity : length params ≡ head.arity
@@ -113,4 +115,7 @@ pub record ProgramTyped (members : Members) (program : CoreProgram) : Type 0 whe
   pub slot : (number : ℕ) → number < length members.fields → field_slot program one_class number ≡ Some number
   pub method : (number : ℕ) (head : Head) → slice_get members.methods number ≡ Some head →
       (method : CoreMethod) × (method_at program one_class number ≡ Some method) × MethodTyped members head method
+  -- no class is above the one, and its methods have distinct names
+  pub own_method : (number : ℕ) (head : Head) (method : CoreMethod) → slice_get members.methods number ≡ Some head → head.is_static ≡ false →
+      method_at program one_class number ≡ Some method → method_for program one_class one_class number ≡ Some method
   pub constructor : (method : CoreMethod) × (method_at program one_class (length members.methods) ≡ Some method) × ConstructorTyped members method

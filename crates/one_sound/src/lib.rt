@@ -10,6 +10,7 @@
 //! - `proofs/Typing.antt`, `proofs/Sound.antt`: which nodes of its core program are well typed, and that evaluation of
 //!   these keeps what holds, a line a form.
 //! - `proofs/Names.antt`, `proofs/Typed.antt`, `proofs/Program.antt`: what a One that fits elaborates to is well typed.
+//! - `proofs/Dispatching.antt`: the method that an object of a One has for one of its class is that method.
 //! - `proofs/Rows.antt`: a One with its core program, of which the law speaks, and its reply.
 #![tactic(auto)]
 
