@@ -1,0 +1,4 @@
+pub mod Constants
+pub mod FaultSets
+pub mod Ways
+pub mod way
