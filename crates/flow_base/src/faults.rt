@@ -1,8 +1,8 @@
 // The faults of flow, and the first of those that were found.
 
 ghost use Rattle.std.specs.Prelude.{◌≡◌, None};
-ghost use Rattle.flow_base.specs.FaultSets.{number_of, stands_before};
-ghost use Rattle.flow_base.specs.way.Kept.{kept};
+ghost use Rattle.flow_base.specs.FaultSets.{fault_where, number_of, stands_before};
+ghost use Rattle.flow_base.specs.way.Kept.{first_of, kept};
 
 use je_base::Span;
 use std::marker::Model;
@@ -71,6 +71,15 @@ impl FirstFault {
                     self.first = Some(fault);
                 }
             }
+        }
+    }
+
+    /// One more fault, where the test holds.
+    pub fn add_where(&mut self, test: bool, kind: FaultKind, span: Span)
+        ensures { self.new ≡ first_of self.old (fault_where test kind span) }
+    {
+        if test {
+            self.add(kind, span);
         }
     }
 }

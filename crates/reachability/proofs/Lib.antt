@@ -1,0 +1,2 @@
+pub mod Jumped
+pub mod Parts

@@ -1,0 +1,5 @@
+pub mod Jumps
+pub mod Reachable
+pub mod Programs
+pub mod View
+pub mod way
