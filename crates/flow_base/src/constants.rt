@@ -11,10 +11,11 @@ use je_core::{Expr, Form, Value};
 pub fn boolean_constant(e: &Expr) -> Option<bool>
     ensures { result ≡ constant_of (view e.now) }
 {
-    constant(&e.form)
+    constant_in_form(&e.form)
 }
 
-fn constant(form: &Form) -> Option<bool>
+/// The value of a boolean constant expression of a form; None of any other form.
+pub fn constant_in_form(form: &Form) -> Option<bool>
     ensures { result ≡ constant_in (form_view form.now) }
 {
     match form {

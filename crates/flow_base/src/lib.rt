@@ -9,12 +9,14 @@
 mod constants;
 mod faults;
 mod jumps;
+mod switches;
 
 ghost use Rattle.flow_base.specs.way.Kept.{KeptIsFirst};
 
-pub use constants::{boolean_constant, is_constantly};
+pub use constants::{boolean_constant, constant_in_form, is_constantly};
 pub use faults::{FaultKind, FirstFault, FlowFault};
 pub use jumps::{Way, is_same};
+pub use switches::has_default;
 
 /// The fault that is kept of a set is its first, and none is kept exactly where there is none.
 pub fn kept_is_first()
