@@ -28,9 +28,9 @@ fn arithmetic_class() -> ClassId
     ClassId(LibraryClass::ArithmeticException.number())
 }
 
-// ClassCastException.
+/// The number of ClassCastException.
 #[tactic(auto, unfolding(je_classes::specs::Hierarchy::library_class, je_java::specs::Raised::class_cast))]
-fn class_cast_class() -> ClassId
+pub fn class_cast_class() -> ClassId
     ensures { result ≡ class_cast }
 {
     ClassId(LibraryClass::ClassCastException.number())
