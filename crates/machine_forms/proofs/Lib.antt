@@ -1,3 +1,4 @@
 pub mod Updates
 pub mod Making
 pub mod Handing
+pub mod Admitting

@@ -1,3 +1,4 @@
 -- What only proofs and the clauses of private functions cite.
 pub mod Making
 pub mod Handing
+pub mod Admitting

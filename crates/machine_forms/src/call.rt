@@ -4,19 +4,19 @@ ghost use Rattle.std.specs.Prelude.{◌≡◌, ◌≤◌, ◌<◌, ◌+◌, ◌^
 ghost use Rattle.machine_parts.specs.way.Clauses.{BeginsValue, GoesToValue, GoesToValueOf, GoesAhead, NextExpr};
 ghost use Rattle.je_core.specs.View.{view, form_view, views, capture_view, stmt_view_if, method_view};
 ghost use Rattle.je_java.specs.Steps.{bind};
-ghost use Rattle.je_java.specs.Meaning.{run_method, run_target, run_virtual, run_instance, run_exact, run_new, construct as the_construct, hand_over as the_hand_over, apply as the_apply, args_of, receiver_of, with_values, adding, call_from as the_call_from, start_call as the_start_call, begin_call as the_begin_call};
+ghost use Rattle.je_java.specs.Meaning.{run_method, run_virtual, run_instance, run_exact, run_new, construct as the_construct, hand_over as the_hand_over, apply as the_apply, args_of, receiver_of, with_values, adding, call_from as the_call_from, start_call as the_start_call, begin_call as the_begin_call};
 ghost use Rattle.machine_parts.specs.Ways.{built_or, height, gives};
 
+use crate::argument::hand_on;
 use crate::array::{array_from, make_arrays};
 use crate::capture::hand_over;
 use je_core::{
     Capture, ClassId, Expr, Form, Memory, Method, ObjId, Program, Slots, Stmt, Ty, Value,
 };
 use je_heap::Heap;
-use je_java::Target;
 use machine_parts::class::{dispatched, locals_for, method};
 use machine_parts::frame::{Context, Control, Env, Fetched, Frame, Made};
-use machine_parts::make::{instance, raise_array_index, raise_null_pointer};
+use machine_parts::make::{instance, raise_array_index, raise_class_cast, raise_null_pointer};
 use machine_parts::shape::class_of;
 use machine_parts::stack::Stack;
 use std::mem;
@@ -58,25 +58,6 @@ fn enter(
     Ok(Control::Exec(body))
 }
 
-// Enters the body of the method that a call comes to.
-fn enter_target(
-    context: &mut Context,
-    program: &Program,
-    target: Target,
-    this: Value,
-    values: Slots,
-) -> Result<Control, Memory>
-    ensures goes { IfOk result (GoesToValueOf program.now context.old context.new
-        (λ p m. run_target p m target this values)) }
-    ensures short { IfOk result (λ c. height context.new + gives c ≤ height context.old + 1) }
-    ensures begun { context.new.begun ≡ context.old.begun }
-{
-    match method(program, target.class, target.method) {
-        Some(method) => enter(context, method, this, values, None),
-        None => Ok(Control::Wrong),
-    }
-}
-
 fn call_virtual(
     context: &mut Context,
     heap: &mut Heap,
@@ -96,8 +77,15 @@ fn call_virtual(
             let Some(own) = class_of(heap, object) else {
                 return Ok(Control::Wrong);
             };
-            match dispatched(own, class, at) {
-                Some(target) => enter_target(context, program, target, this, values),
+            let Some(named) = method(program, class, at) else {
+                return Ok(Control::Wrong);
+            };
+            let Some(found) = dispatched(program, own, class, at) else {
+                return Ok(Control::Wrong);
+            };
+            match hand_on(context.alloc, heap, program, named, found, &values)? {
+                Some(true) => enter(context, found, this, values, None),
+                Some(false) => raise_class_cast(context, heap, program),
                 None => Ok(Control::Wrong),
             }
         }

@@ -13,6 +13,7 @@ use crate::update::{fetch_field, fetch_local};
 use je_core::{Capture, ClassId, Memory, ObjId, Program, Value};
 use je_heap::Heap;
 use machine_parts::class::field_slot;
+use machine_parts::field::slot;
 use machine_parts::frame::{Env, Fetched};
 
 // The value at the end of a path of fields.
@@ -67,13 +68,13 @@ fn put(
     ensures { IfOk result (λ found. (env : TheEnv) →
         Hands program.now heap.old heap.new env (λ p. put_into p class field object value) found) }
 {
-    let Some(slot) = field_slot(program, class, field) else {
+    let Some(at) = field_slot(program, class, field) else {
         return Ok(Fetched::Wrong);
     };
-    if heap.slot(object, slot).is_none() {
+    if slot(heap, object, at).is_none() {
         return Ok(Fetched::Wrong);
     }
-    heap.set(object, slot, value)?;
+    heap.set(object, at as u64, value)?;
     Ok(Fetched::Value(value))
 }
 

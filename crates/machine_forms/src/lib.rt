@@ -3,6 +3,7 @@
 //! Inside the machine alone: the layers above it use `je_interp`.
 #![tactic(auto, unfolding(machine_parts::specs::way::Opened::opened))]
 
+pub mod argument;
 pub mod array;
 pub mod call;
 pub mod capture;

@@ -19,6 +19,7 @@ use je_core::{Base, BinOp, ClassId, Expr, Form, Memory, Program, Ty, Value};
 use je_heap::Heap;
 use machine_parts::array::{place_in, store_element};
 use machine_parts::class::field_slot;
+use machine_parts::field::slot;
 use machine_parts::frame::{Context, Control, Env, Fetched, Frame};
 use machine_parts::make::{raise_arithmetic, raise_array_index, raise_null_pointer};
 use machine_parts::shape::extent_of;
@@ -138,10 +139,10 @@ pub fn fetch_field(
 {
     match object {
         Value::Ref(id) => {
-            let Some(slot) = field_slot(program, class, field) else {
+            let Some(at) = field_slot(program, class, field) else {
                 return Fetched::Wrong;
             };
-            match heap.slot(id, slot) {
+            match slot(heap, id, at) {
                 Some(value) => Fetched::Value(value),
                 None => Fetched::Wrong,
             }
@@ -286,13 +287,13 @@ fn store_field(
 {
     match object {
         Value::Ref(id) => {
-            let Some(slot) = field_slot(program, class, field) else {
+            let Some(at) = field_slot(program, class, field) else {
                 return Ok(Control::Wrong);
             };
-            if heap.slot(id, slot).is_none() {
+            if slot(heap, id, at).is_none() {
                 return Ok(Control::Wrong);
             }
-            heap.set(id, slot, value)?;
+            heap.set(id, at as u64, value)?;
             Ok(Control::Give(given))
         }
         Value::Null => raise_null_pointer(context, heap, program),

@@ -7,7 +7,7 @@ use Rattle.je_core.specs.declared.value.Value.{Value}
 use Rattle.je_core.specs.Core.{CoreProgram}
 use Rattle.je_core.specs.View.{program_view}
 use Rattle.je_heap.specs.Contents.{Contents}
-use Rattle.je_java.specs.Classes.{field_slot}
+use Rattle.je_classes.specs.Slots.{field_slot}
 use Rattle.je_java.specs.Steps.{Outside, Run, Exits, Computation, ◌>>=◌, seq, need, put_slot}
 use Rattle.machine_parts.specs.declared.frame.Env.{Env}
 use Rattle.machine_parts.specs.declared.frame.Fetched.{Fetched}
