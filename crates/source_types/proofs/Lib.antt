@@ -1,1 +1,4 @@
+pub mod Same
+pub mod Above
+mod Subtyping
 mod Rows

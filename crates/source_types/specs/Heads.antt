@@ -1,10 +1,8 @@
 -- What types see of each class: its kind, the bounds of its type parameters, and the types directly above it, as its header
 -- names them (JLS 8.1.2, 8.1.4, 8.1.5, 9.1.2, 9.1.3).
-use Rattle.std.specs.Prelude.{ℕ, ◌+◌, Bool, true, false, List, [], length, Option, Some, None, slice_get}
+use Rattle.std.specs.Prelude.{ℕ, List, [], length, Option, Some, None, slice_get}
 use Rattle.std.specs.List.{sum_by}
 use Rattle.je_core.specs.declared.program.Kind.{Kind}
-use Rattle.je_core.specs.declared.program.Sort.{Sort}
-use Rattle.je_core.specs.declared.program.Sort.TheVariants as sort
 use Rattle.je_classes.specs.Hierarchy.{object_class}
 use Rattle.je_scopes.specs.SourceTypes.{SourceType, of_class, no_source_types}
 

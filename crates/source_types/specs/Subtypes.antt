@@ -2,7 +2,6 @@
 -- raw types. No primitive type is a subtype.
 use Rattle.std.specs.Prelude.{◌≡◌, ℕ, zero, suc, Bool, true, false, ◌&&◌, ◌||◌, List}
 use Rattle.std.specs.List.{list_any, Contains}
-use Rattle.je_core.specs.declared.types.Base.TheVariants as base
 use Rattle.je_classes.specs.Subtypes.{is_reference_of}
 use Rattle.je_classes.specs.Subtypes as base_types
 use Rattle.je_scopes.specs.SourceTypes.{SourceType, plain, of_class, of_variable, same_source_type, null_type}

@@ -1,6 +1,6 @@
 -- The types above a type, by the headers of classes with their type arguments put in, and by the bounds of type variables
 -- (JLS 4.10.2).
-use Rattle.std.specs.Prelude.{ℕ, zero, suc, ◌+◌, Bool, List, [], ◌∷◌, map, length}
+use Rattle.std.specs.Prelude.{ℕ, zero, suc, ◌+◌, List, [], ◌∷◌, map, length}
 use Rattle.std.specs.List.{flat_map}
 use Rattle.je_scopes.specs.SourceTypes.{SourceType, of_class, of_variable}
 use Rattle.source_types.specs.Heads.{ClassHead, supers_of, bound_of, variable_count}
