@@ -20,7 +20,7 @@ or-assoc : (a b c : Bool) → ((a || b) || c) ≡ (a || (b || c))
 or-assoc true b c = refl
 or-assoc false b c = refl
 
-any-append : {A : Type 0} (test : A → Bool) (xs ys : List A) → list_any test (xs ++ ys) ≡ (list_any test xs || list_any test ys)
+pub any-append : {A : Type 0} (test : A → Bool) (xs ys : List A) → list_any test (xs ++ ys) ≡ (list_any test xs || list_any test ys)
 any-append test [] ys = refl
 any-append test (x ∷ xs) ys = ap (λ (b : Bool). test x || b) (any-append test xs ys) ∙ sym (or-assoc (test x) (list_any test xs) (list_any test ys))
 
@@ -34,7 +34,7 @@ module _ (heads : List ClassHead) where
   abbrev pub is_within : ℕ → SourceType → SourceType → Bool
   is_within n s t = list_any (λ u. same_source_type u t) (supertypes_within heads n s)
 
-  step : (n : ℕ) (s t : SourceType) → is_within (suc n) s t ≡ (same_source_type s t || list_any (λ u. is_within n u t) (directly_above heads s))
+  pub step : (n : ℕ) (s t : SourceType) → is_within (suc n) s t ≡ (same_source_type s t || list_any (λ u. is_within n u t) (directly_above heads s))
   step n s t = ap (λ (b : Bool). same_source_type s t || b) (any-flat (λ u. same_source_type u t) (supertypes_within heads n) (directly_above heads s))
 
   or-right : (a b : Bool) → b ≡ true → (a || b) ≡ true
@@ -55,7 +55,7 @@ module _ (heads : List ClassHead) where
       (λ q h. let p = contains-any (λ u. is_within n u t) (directly_above heads s) h in up p.there (sound n p.element t p.passes))
       (sym (step n s t) ∙ e)
 
-  itself : (n : ℕ) (t : SourceType) → is_within n t t ≡ true
+  pub itself : (n : ℕ) (t : SourceType) → is_within n t t ≡ true
   itself zero t = rw (same-refl t) refl
   itself (suc n) t = rw (same-refl t) refl
 

@@ -4,3 +4,4 @@ pub mod Erasure
 pub mod Supertypes
 pub mod Subtypes
 pub mod Laws
+pub mod way

@@ -1,12 +1,12 @@
 -- Subtypes among types of a source (JLS 4.10.2, 4.10.3). Type arguments have to be the same, as there are no wildcards and no
 -- raw types. No primitive type is a subtype.
 use Rattle.std.specs.Prelude.{◌≡◌, ℕ, zero, suc, Bool, true, false, ◌&&◌, ◌||◌, List}
-use Rattle.std.specs.List.{list_any, Contains}
+use Rattle.std.specs.List.{Contains}
 use Rattle.je_classes.specs.Subtypes.{is_reference_of}
 use Rattle.je_classes.specs.Subtypes as base_types
 use Rattle.je_scopes.specs.SourceTypes.{SourceType, plain, of_class, of_variable, same_source_type, null_type}
 use Rattle.source_types.specs.Heads.{ClassHead, object_type}
-use Rattle.source_types.specs.Supertypes.{directly_above, supertypes}
+use Rattle.source_types.specs.Supertypes.{directly_above, has_type, supertypes}
 
 abbrev pub dims_of : SourceType → ℕ
 dims_of (plain b n) = n
@@ -53,7 +53,7 @@ is_null _ = false
 -- of two types without dimensions
 abbrev pub is_element_below : List ClassHead → SourceType → SourceType → Bool
 is_element_below heads s t =
-    is_reference s && (is_object t || is_null s && is_reference t || list_any (λ u. same_source_type u t) (supertypes heads s))
+    is_reference s && (is_object t || is_null s && is_reference t || has_type (supertypes heads s) t)
 
 -- of two components of arrays, by their elements and dimensions: the same primitive, or a subtype
 abbrev pub are_components_below : List ClassHead → SourceType → ℕ → SourceType → ℕ → Bool

@@ -1,10 +1,14 @@
 -- The types above a type, by the headers of classes with their type arguments put in, and by the bounds of type variables
 -- (JLS 4.10.2).
-use Rattle.std.specs.Prelude.{ℕ, zero, suc, ◌+◌, List, [], ◌∷◌, map, length}
-use Rattle.std.specs.List.{flat_map}
-use Rattle.je_scopes.specs.SourceTypes.{SourceType, of_class, of_variable}
+use Rattle.std.specs.Prelude.{ℕ, zero, suc, ◌+◌, Bool, List, [], ◌∷◌, map, length}
+use Rattle.std.specs.List.{flat_map, list_any}
+use Rattle.je_scopes.specs.SourceTypes.{SourceType, of_class, of_variable, same_source_type}
 use Rattle.source_types.specs.Heads.{ClassHead, supers_of, bound_of, variable_count}
 use Rattle.source_types.specs.Substitution.{substituted}
+
+-- whether a type is one of these
+abbrev pub has_type : List SourceType → SourceType → Bool
+has_type types t = list_any (λ u. same_source_type u t) types
 
 -- those directly above it; an array has none here
 abbrev pub directly_above : List ClassHead → SourceType → List SourceType
