@@ -1,0 +1,13 @@
+pub mod Judged
+pub mod Answers
+pub mod Typed
+pub mod Promotion
+pub mod Constants
+pub mod Literals
+pub mod Conversions
+pub mod Castable
+pub mod Operators
+pub mod Conditionals
+pub mod Assignments
+pub mod Casts
+pub mod Arrays
