@@ -1,3 +1,4 @@
 pub mod Few
 pub mod FieldTables
+pub mod SubclassTables
 pub mod way

@@ -1,3 +1,4 @@
 -- What only proofs cite.
 pub mod Order
 pub mod Slots
+pub mod Above

@@ -1,14 +1,15 @@
 // Where the fields of a class's instances stand, and static fields.
 
-ghost use Rattle.std.specs.Prelude.{◌≡◌, IfOk, count_by, map, slice_get, slice_set};
+ghost use Rattle.std.specs.Prelude.{◌≡◌, IfOk, count_by, map, slice_get};
 ghost use Rattle.je_core.specs.View.{field_view, program_view};
 ghost use Rattle.je_classes.specs.Hierarchy.{IsAcyclic};
 ghost use Rattle.je_classes.specs.Slots.{is_instance};
 ghost use Rattle.class_tables.specs.Few.{AreFew};
 ghost use Rattle.class_tables.specs.way.Order.{IsWhole};
 ghost use Rattle.je_classes.specs.Statics.{is_static};
-ghost use Rattle.class_tables.specs.way.Slots.{AreBefore, AreCounts, AreStatics, AreTotals, IsKnownAbove, fields_at, known_above, total_of};
+ghost use Rattle.class_tables.specs.way.Slots.{AreBefore, AreCounts, AreStatics, AreTotals, IsKnownAbove, fields_at, total_of};
 
+use crate::by_class::{known_above, note};
 use je_classes::class_count;
 use je_core::{ClassId, Field, Memory, Program};
 use std::alloc::Global;
@@ -41,19 +42,6 @@ fn instance_count(fields: &[Field]) -> usize
     count
 }
 
-// How many slots stand before a class's own, as far as it is known.
-pub(crate) fn total_above(totals: &[usize], superclass: Option<ClassId>) -> usize
-    ensures { result ≡ known_above totals.now superclass }
-{
-    match superclass {
-        None => 0,
-        Some(superclass) => match totals.get(superclass.0 as usize) {
-            None => 0,
-            Some(total) => *total,
-        },
-    }
-}
-
 // How many slots the instances of a class have, where it is known of its superclass.
 fn total(program: &Program, totals: &[usize], class: ClassId) -> usize
     requires acyclic { IsAcyclic (program_view program.now) }
@@ -64,17 +52,7 @@ fn total(program: &Program, totals: &[usize], class: ClassId) -> usize
     let Some(class) = program.class(class) else {
         return 0;
     };
-    total_above(totals, class.superclass) + instance_count(&class.fields)
-}
-
-// Notes the total of a class, if it is there.
-fn note(totals: &mut Vec<usize>, class: ClassId, total: usize)
-    ensures { totals.new.items ≡ slice_set totals.old.items class.0 total }
-{
-    let at = class.0 as usize;
-    if at < totals.len() {
-        totals[at] = total;
-    }
+    known_above(totals, class.superclass) + instance_count(&class.fields)
 }
 
 // How many slots the instances of each class have.

@@ -18,8 +18,8 @@ pub(crate) struct Order {
     placed: Vec<bool>,
 }
 
-// The superclass of a class, or its first interface where it has none.
-fn first_super(program: &Program, class: ClassId) -> Option<ClassId>
+/// The superclass of a class, or its first interface where it has none.
+pub(crate) fn first_super(program: &Program, class: ClassId) -> Option<ClassId>
     ensures { result ≡ the_first_super (program_view program.now) class }
 {
     let Some(class) = program.class(class) else {

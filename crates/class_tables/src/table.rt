@@ -4,7 +4,8 @@ ghost use Rattle.std.specs.Prelude.{◌≡◌};
 ghost use Rattle.je_core.specs.View.{program_view};
 ghost use Rattle.class_tables.specs.FieldTables.{IsFieldTableOf};
 
-use crate::fields::{before, statics, total_above, totals};
+use crate::by_class::known_above;
+use crate::fields::{before, statics, totals};
 use crate::order::in_order;
 use class_members::field_at;
 use je_core::{ClassId, Memory, Program};
@@ -75,7 +76,7 @@ impl FieldTable {
     {
         match program.class(class) {
             None => 0,
-            Some(own) => total_above(&self.totals, own.superclass),
+            Some(own) => known_above(&self.totals, own.superclass),
         }
     }
 
@@ -84,7 +85,7 @@ impl FieldTable {
         requires { IsFieldTableOf (program_view program.now) self.now }
         ensures { result ≡ length (slot_fields (program_view program.now) (Some class)) }
     {
-        total_above(&self.totals, Some(class))
+        known_above(&self.totals, Some(class))
     }
 
     /// The slot of the field at a place of a class; None exactly where there is none, and where it is static (JLS 8.3.1.1).
@@ -101,7 +102,7 @@ impl FieldTable {
         if field.is_static {
             return None;
         }
-        Some(total_above(&self.totals, own.superclass) + self.count_before(class, at))
+        Some(known_above(&self.totals, own.superclass) + self.count_before(class, at))
     }
 
     /// The place of the field at a place of a class among all static fields, which stand by class number and place; None exactly

@@ -15,7 +15,7 @@ returns c =
     let p = program_view c.args.program.now in
     let k = class_view c.in-Some.class.now in
     let there : class_at p c.args.class ≡ Some k = sym c.in-Some.ensures in
-    let x : c.total_above.result ≡ length (slot_fields p k.superclass) = c.total_above.ensures ∙ known-above p c.args.totals.now c.args.class k there c.requires.above in
+    let x : c.known_above.result ≡ length (slot_fields p k.superclass) = c.known_above.ensures ∙ known-above p c.args.totals.now c.args.class k there c.requires.above in
     let y : c.instance_count.result ≡ count_by is_instance k.fields = c.instance_count.ensures ∙ ap (λ fs. count_by is_instance (map field_view fs)) c.deref.ensures.value in
     (λ i. x i + y i) ∙ sym (total-is p c.requires.acyclic c.args.class k there)
 
@@ -24,7 +24,7 @@ overflow_add-result c =
     let p = program_view c.args.program.now in
     let k = class_view c.in-Some.class.now in
     let there : class_at p c.args.class ≡ Some k = sym c.in-Some.ensures in
-    let x : c.total_above.result ≡ length (slot_fields p k.superclass) = c.total_above.ensures ∙ known-above p c.args.totals.now c.args.class k there c.requires.above in
+    let x : c.known_above.result ≡ length (slot_fields p k.superclass) = c.known_above.ensures ∙ known-above p c.args.totals.now c.args.class k there c.requires.above in
     let y : c.instance_count.result ≡ count_by is_instance k.fields = c.instance_count.ensures ∙ ap (λ fs. count_by is_instance (map field_view fs)) c.deref.ensures.value in
     let z : total_of p c.args.class ≡ length (slot_fields p k.superclass) + count_by is_instance k.fields = total-is p c.requires.acyclic c.args.class k there in
     let w : total_of p c.args.class < 4611686018427387904 = slots-few p c.requires.few (Some c.args.class) in

@@ -8,4 +8,4 @@ pub returns-in-Some : goal.returns-in-Some
 returns-in-Some c =
     let p = program_view c.args.program.now in
     let k = class_view c.in-Some.own.now in
-    c.total_above.ensures ∙ ap (λ ts. known_above ts k.superclass) c.deref.ensures.value ∙ first-is p c.args.self.now c.requires c.args.class k (sym c.in-Some.ensures)
+    c.known_above.ensures ∙ ap (λ ts. known_above ts k.superclass) c.deref.ensures.value ∙ first-is p c.args.self.now c.requires c.args.class k (sym c.in-Some.ensures)
