@@ -1,0 +1,5 @@
+pub mod Rows
+pub mod AboveAlone
+pub mod Walking
+pub mod Decided
+mod Examples
