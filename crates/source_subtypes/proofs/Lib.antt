@@ -1,0 +1,5 @@
+pub mod Equal
+pub mod Putting
+pub mod Erasing
+pub mod Climbing
+pub mod Deciding

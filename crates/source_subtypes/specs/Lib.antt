@@ -1,0 +1,3 @@
+pub mod HeadView
+pub mod View
+pub mod Above
