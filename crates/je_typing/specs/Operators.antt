@@ -19,6 +19,7 @@ use Rattle.je_fitting.specs.Types.{of, string}
 use Rattle.je_scopes.specs.SourceTypes.{SourceType}
 use Rattle.source_types.specs.Heads.{ClassHead}
 use Rattle.source_types.specs.Subtypes.{is_reference}
+use Rattle.je_typing.specs.declared.operands.Operands.{Operands}
 use Rattle.je_typing.specs.declared.fault.TypeRule.TheVariants.{BadOperand}
 use Rattle.je_typing.specs.Constants.{constant_value, constant_text, uses_of, value_in, folded_unary, folded_binary, constant_or, spelled, joined_texts}
 use Rattle.je_typing.specs.Conversions.{converted}
@@ -59,11 +60,6 @@ unary o at span operand = do
   gives (of_base b (unary_node o b at span operand.node))
 
 -- ---- binary operators on numbers and booleans (JLS 15.17 to 15.22)
-
--- what the operands are converted to
-pub record Operands : Type 0 where
-  pub left : Base
-  pub right : Base
 
 abbrev pub alike : Option Base → Option Operands
 alike None = None

@@ -9,6 +9,8 @@
 
 mod fault;
 mod judging;
+mod operands;
 
 pub use fault::{Refusal, TypeFault, TypeRule};
 pub use judging::{check, need};
+pub use operands::Operands;
