@@ -1,18 +1,22 @@
 // A call from outside begins with its body: no move of its own comes before.
 
-ghost use Rattle.std.specs.Prelude.{◌≤◌, ◌<◌, ◌+◌, IfOk, Some};
+ghost use Rattle.std.specs.Prelude.{◌≡◌, ◌≤◌, ◌<◌, ◌+◌, IfOk, Some};
 ghost use Rattle.je_core.specs.View.{method_view};
-ghost use Rattle.je_java.specs.Meaning.{replied as the_replied, replied_virtual, replied_fresh, built, call_by};
+ghost use Rattle.je_java.specs.Raised.{class_cast};
+ghost use Rattle.je_java.specs.Steps.{raise};
+ghost use Rattle.je_java.specs.Meaning.{replied as the_replied, replied_exact, replied_virtual, replied_fresh, built, call_by};
+ghost use Rattle.machine_parts.specs.declared.frame.Reply.{Reply as TheReply};
 ghost use Rattle.machine_parts.specs.way.Clauses.{GoesToReply, BeginsBody, Falls};
 
 use crate::node::exec;
 use je_core::{ClassId, Memory, Method, ObjId, Program, Slots, Stmt, Value};
 use je_heap::Heap;
-use je_java::{Receiver, Target};
+use je_java::Receiver;
+use machine_forms::argument::hand_on;
 use machine_forms::call::body;
 use machine_parts::class::{dispatched, locals_for, method};
 use machine_parts::frame::{Call, Context, Control, Env, Made, Reply};
-use machine_parts::make::instance;
+use machine_parts::make::{class_cast_class, instance};
 use machine_parts::reply::nobody;
 use machine_parts::shape::class_of;
 use machine_parts::stack::Stack;
@@ -43,19 +47,16 @@ fn start_method(
     heap: &Heap,
     program: &Program,
     reply: &mut Reply,
-    target: Target,
+    method: &Method,
     this: Value,
     args: Slots,
 ) -> Result<Control, Memory>
     ensures goes { IfOk result (GoesToReply program.now
         context.old heap.now reply.new context.new heap.now
-        (λ p m. the_replied p m target this args)) }
+        (λ p m. the_replied m (method_view method.now) this args)) }
     ensures falls { IfOk result (Falls context.old context.new) }
     ensures begun { context.new.begun ≤ context.old.begun + 1 }
 {
-    let Some(method) = method(program, target.class, target.method) else {
-        return Ok(Control::Wrong);
-    };
     let Some(body) = body(method)? else {
         return Ok(Control::Wrong);
     };
@@ -64,10 +65,51 @@ fn start_method(
     begin_body(context, heap, program, body, this, locals)
 }
 
-// The body of the method that an object's class has for the named one.
-fn start_virtual(
+// The body of the named method itself, without a receiver.
+fn start_exact(
     context: &mut Context,
     heap: &Heap,
+    program: &Program,
+    reply: &mut Reply,
+    class: ClassId,
+    at: u32,
+    args: Slots,
+) -> Result<Control, Memory>
+    ensures goes { IfOk result (GoesToReply program.now
+        context.old heap.now reply.new context.new heap.now
+        (λ p m. replied_exact p m class at args)) }
+    ensures falls { IfOk result (Falls context.old context.new) }
+    ensures begun { context.new.begun ≤ context.old.begun + 1 }
+{
+    match method(program, class, at) {
+        Some(method) => start_method(context, heap, program, reply, method, Value::Null, args),
+        None => Ok(Control::Wrong),
+    }
+}
+
+// Ends with a new ClassCastException: no body has begun that could catch it.
+fn end_by_class_cast(
+    context: &mut Context,
+    heap: &mut Heap,
+    program: &Program,
+) -> Result<Control, Memory>
+    ensures goes { IfOk result (λ c. (reply : TheReply) → GoesToReply program.now
+        context.old heap.old reply context.new heap.new (λ p m. raise p class_cast) c) }
+    ensures falls { IfOk result (Falls context.old context.new) }
+    ensures begun { context.new.begun ≡ context.old.begun }
+{
+    context.env = nobody(context.alloc);
+    match instance(context, heap, program, class_cast_class())? {
+        Made::Object(exception) => Ok(Control::Thrown(exception)),
+        Made::Spent => Ok(Control::Spent),
+        Made::Wrong => Ok(Control::Wrong),
+    }
+}
+
+// The body of the method that an object's class has for the named one, if it takes the arguments.
+fn start_virtual(
+    context: &mut Context,
+    heap: &mut Heap,
     program: &Program,
     reply: &mut Reply,
     class: ClassId,
@@ -76,7 +118,7 @@ fn start_virtual(
     args: Slots,
 ) -> Result<Control, Memory>
     ensures goes { IfOk result (GoesToReply program.now
-        context.old heap.now reply.new context.new heap.now
+        context.old heap.old reply.new context.new heap.new
         (λ p m. replied_virtual p m class at object args)) }
     ensures falls { IfOk result (Falls context.old context.new) }
     ensures begun { context.new.begun ≤ context.old.begun + 1 }
@@ -84,16 +126,16 @@ fn start_virtual(
     let Some(own) = class_of(heap, object) else {
         return Ok(Control::Wrong);
     };
-    match dispatched(own, class, at) {
-        Some(target) => start_method(
-            context,
-            heap,
-            program,
-            reply,
-            target,
-            Value::Ref(object),
-            args,
-        ),
+    let Some(named) = method(program, class, at) else {
+        return Ok(Control::Wrong);
+    };
+    let Some(found) = dispatched(program, own, class, at) else {
+        return Ok(Control::Wrong);
+    };
+    let this = Value::Ref(object);
+    match hand_on(context.alloc, heap, program, named, found, &args)? {
+        Some(true) => start_method(context, heap, program, reply, found, this, args),
+        Some(false) => end_by_class_cast(context, heap, program),
         None => Ok(Control::Wrong),
     }
 }
@@ -181,15 +223,7 @@ pub fn start(
         args,
     } = call;
     match receiver {
-        Receiver::None => start_method(
-            context,
-            heap,
-            program,
-            reply,
-            Target { class, method },
-            Value::Null,
-            args,
-        ),
+        Receiver::None => start_exact(context, heap, program, reply, class, method, args),
         Receiver::Object(object) => start_virtual(
             context, heap, program, reply, class, method, object, args,
         ),
