@@ -14,12 +14,11 @@ use Rattle.je_classes.specs.way.Reaching.{has}
 use Rattle.je_classes.proofs.Below.{same_class-equal, below-to, below-from, below-itself, or_true}
 use Rattle.je_classes.proofs.Lists.{bool_cases, contains-here, contains-later, contains-cases}
 use Rattle.je_classes.proofs.Paths.{supers-within}
-use Rattle.je_classes.proofs.Reaching.{has-last, has-got}
 use Rattle.je_classes.proofs.Sets.{by_either, in-either}
 use Rattle.class_lookup.specs.way.Walk.{reached_by}
 use Rattle.class_lookup.proofs.Above.{same-test}
 use Rattle.class_lookup.proofs.Walking.{Leads, stays, goes, further as further-on, sound, there, complete}
-use Rattle.number_maps.specs.Maps.{Family, family, IsMap, IsEmpty, Keeps, HasMore}
+use Rattle.number_maps.specs.Maps.{Family, family, IsMap, IsEmpty, Keeps}
 use Rattle.class_tables.specs.declared.subclasses.SubclassTable.{SubclassTable}
 use Rattle.class_tables.specs.SubclassTables.{AreSupersThere, IsSubclassTableOf}
 use Rattle.class_tables.specs.way.Above.{Has, is_key, is_beyond, next_beyond, HasEach, IsExact, IsKnown, AreKnown}
@@ -42,53 +41,20 @@ from-kept test (x ∷ xs) y q = bool_cases (λ b. test x ≡ b → Contains (if 
     (λ k. let m = from-kept test xs y k in (contains-later x y xs m.0, m.1)) (contains-cases x y (filter test xs) r))
     (λ _ t r. let m = from-kept test xs y r in (contains-later x y xs m.0, m.1)) refl q
 
-or-false : (b : Bool) → (b || false) ≡ b
-or-false true = refl
-or-false false = refl
-
-one-more : (a b c : Bool) → (a || (b || c)) ≡ ((a || b) || c)
-one-more true b c = refl
-one-more false b c = refl
-
-has-also : (xs : List ClassId) (c d : ClassId) → has (xs ++ c ∷ []) d ≡ (has xs d || same_class d c)
-has-also [] c d = or-false (same_class d c)
-has-also (x ∷ xs) c d = ap (λ b. same_class d x || b) (has-also xs c d) ∙ one-more (same_class d x) (has xs d) (same_class d c)
-
 -- ---- maps that stay
 
 keys-stay : (f g : Family) → Keeps f g → (m : ℕ) → IsMap f m → (d : ClassId) → is_key g m d ≡ is_key f m d
 keys-stay f g k m t d = ap is_some (k.same m d.0 t)
 
-pub exact-stays : (p : CoreProgram) (f g : Family) → Keeps f g → (c : ClassId) (m : ℕ) → IsExact p f c m → IsExact p g c m
+exact-stays : (p : CoreProgram) (f g : Family) → Keeps f g → (c : ClassId) (m : ℕ) → IsExact p f c m → IsExact p g c m
 exact-stays p f g k c m e = record { there = k.there m e.there; each = λ d l. keys-stay f g k m e.there d ∙ e.each d l }
 
 empty-stays : (f g : Family) → Keeps f g → (m : ℕ) → IsEmpty f m → IsEmpty g m
 empty-stays f g k m e = record { there = k.there m e.there; nothing = λ key. k.same m key e.there ∙ e.nothing key }
 
-pub keeps-itself : (f : Family) → Keeps f f
-keeps-itself f = record { bits = refl; there = λ m t. t; same = λ m key t. refl }
-
-pub keeps-on : (f g h : Family) → Keeps f g → Keeps g h → Keeps f h
-keeps-on f g h k l = record { bits = l.bits ∙ k.bits; there = λ m t. l.there m (k.there m t); same = λ m key t. l.same m key (k.there m t) ∙ k.same m key t }
-
--- ---- some classes more
-
-pub has-none : (f : Family) (base : ℕ) → IsMap f base → HasEach f f base [] base
-has-none f base t = record { there = t; each = λ c l. sym (or-false (is_key f base c)) }
-
-pub has-next : (old f g : Family) (base map made : ℕ) (xs : List ClassId) (c : ClassId) → f.bits ≡ 31 → HasEach old f base xs map → HasMore f g map c.0 0 made → HasEach old g base (xs ++ c ∷ []) made
-has-next old f g base map made xs c b h m = record { there = m.there; each = λ d l. m-each d (let q : 2 ^ 31 ≡ 2 ^ f.bits = ap (λ n. 2 ^ n) (sym b) in subst (λ (n : ℕ). d.0 < n) q l) ∙ by d l (nat_eq d.0 c.0) refl ∙ ap (λ y. is_key old base d || y) (sym (has-also xs c d)) }
-  where
-    m-each : (d : ClassId) → d.0 < 2 ^ f.bits → is_key g made d ≡ is_some (if nat_eq d.0 c.0 then Some 0 else f.value map d.0)
-    m-each d l = ap is_some (m.each d.0 l)
-
-    by : (d : ClassId) → d.0 < 2 ^ 31 → (e : Bool) → nat_eq d.0 c.0 ≡ e → is_some (if nat_eq d.0 c.0 then Some 0 else f.value map d.0) ≡ (is_key old base d || (has xs d || same_class d c))
-    by d l true e = ap (λ x. is_some (if x then Some 0 else f.value map d.0)) e ∙ sym (or_true (is_key old base d) (has xs d || same_class d c) (or_true (has xs d) (same_class d c) e))
-    by d l false e = ap (λ x. is_some (if x then Some 0 else f.value map d.0)) e ∙ h.each d l ∙ ap (λ x. is_key old base d || x) (sym (ap (λ x. has xs d || x) e ∙ or-false (has xs d)))
-
 -- ---- what is reached past a map
 
-pub data IsBase (p : CoreProgram) (f : Family) (class : ClassId) (base : ℕ) : Type 0 where
+data IsBase (p : CoreProgram) (f : Family) (class : ClassId) (base : ℕ) : Type 0 where
   nothing_known : IsEmpty f base → IsBase p f class base
   of_super : {s : ClassId} → Contains (supers_of p class) s → IsExact p f s base → IsBase p f class base
 
@@ -104,9 +70,6 @@ begins-there p (above {c = c} {e = e} q r) l = supers-within p c e (class_at p c
 module _ (p : CoreProgram) (f : Family) (class : ClassId) (base : ℕ) where
   abbrev n : ℕ
   n = length p.classes
-
-  next : ClassId → List ClassId
-  next = next_beyond p f base
 
   below-by : {c d : ClassId} → Leads (next_beyond p f base) c d → Below p c d
   below-by stays = same
@@ -129,7 +92,7 @@ module _ (p : CoreProgram) (f : Family) (class : ClassId) (base : ℕ) where
       (λ _ k. inl (base-closed b e d (begins-there p r l) l k r))
       (λ _ k. comes b (further-on (next_beyond p f base) w (kept (is_beyond f base) (supers_of p c) e q (ap not k))) r l) refl
 
-  pub exact : (g : Family) (made : ℕ) → n < 2 ^ 31 → IsBase p f class base → HasEach f g base (reached_by (next_beyond p f base) n class) made → IsExact p g class made
+  exact : (g : Family) (made : ℕ) → n < 2 ^ 31 → IsBase p f class base → HasEach f g base (reached_by (next_beyond p f base) n class) made → IsExact p g class made
   exact g made few b h = record { there = h.there; each = λ d l. same-test (is_key g made d) (is_below p class d) (to d l) (from d l) }
     where
       key : (d : ClassId) → d.0 < n → is_key g made d ≡ (is_key f base d || has (reached_by (next_beyond p f base) n class) d)
@@ -156,7 +119,7 @@ first-contains : (xs : List ClassId) (s : ClassId) → first_in xs ≡ Some s �
 first-contains [] s e = absurd cc
 first-contains (x ∷ xs) s e = let q : x ≡ s = cc in subst (λ (z : ClassId). Contains (x ∷ xs) z) q (contains-here x xs)
 
-pub base-of : (p : CoreProgram) (table : SubclassTable) (class : ClassId) → AreKnown p table → IsBase p (family table.maps) class (known_above table.above.items (first_super p class))
+base-of : (p : CoreProgram) (table : SubclassTable) (class : ClassId) → AreKnown p table → IsBase p (family table.maps) class (known_above table.above.items (first_super p class))
 base-of p table class a = by (first_super p class) refl
   where
     over : (s : ClassId) → Contains (supers_of p class) s → (s.0 < length p.classes) ⊎ (length p.classes ≤ s.0) → IsBase p (family table.maps) class (known table.above.items s)
@@ -172,10 +135,6 @@ pub extended-exact : (p : CoreProgram) (old : SubclassTable) (g : Family) (class
     base ≡ known_above old.above.items (first_super p class) → beyond ≡ reached_by (next_beyond p (family old.maps) base) (length p.classes) class → HasEach (family old.maps) g base beyond made → IsExact p g class made
 extended-exact p old g class base made beyond few a e q h =
     exact p (family old.maps) class base g made few (subst (IsBase p (family old.maps) class) (sym e) (base-of p old class a)) (subst (λ xs. HasEach (family old.maps) g base xs made) q h)
-
-pub base-there : (p : CoreProgram) (f : Family) (class : ClassId) (base : ℕ) → IsBase p f class base → IsMap f base
-base-there p f class base (nothing_known e) = e.there
-base-there p f class base (of_super q x) = x.there
 
 -- ---- noting one class more
 

@@ -35,10 +35,10 @@ module _ (nodes : List Node) (bits at : ℕ) (t : is_tree nodes (suc bits) at �
   parts : (nat_lt at (length nodes) ≡ true) × (is_tree nodes bits (child nodes at 0) ≡ true) × (is_tree nodes bits (child nodes at 1) ≡ true)
   parts = and-parts (nat_lt at (length nodes)) (is_tree nodes bits (child nodes at 0)) (is_tree nodes bits (child nodes at 1)) t
 
-  pub tree-within : at < length nodes
+  tree-within : at < length nodes
   tree-within = let e : nat_lt at (length nodes) ≡ true = parts.0 in grind (arith, nat_tests)
 
-  pub child-tree : (bit : ℕ) → is_tree nodes bits (child nodes at bit) ≡ true
+  child-tree : (bit : ℕ) → is_tree nodes bits (child nodes at bit) ≡ true
   child-tree zero = parts.1
   child-tree (suc bit) = by (slice_get nodes at) refl
     where
@@ -78,14 +78,8 @@ module _ (nodes : List Node) (x : Node) where
     is = ap (λ xs. slice_get xs (length nodes)) e ∙ get-new nodes x;
   }
 
-pub stays : (a : List Node) → Grows a a
-stays a = record { first = refl; trees = λ bits at t. t; same = λ bits at key t. refl }
-
-pub grows-on : (a b c : List Node) → Grows a b → Grows b c → Grows a c
+grows-on : (a b c : List Node) → Grows a b → Grows b c → Grows a c
 grows-on a b c g h = record { first = h.first ∙ g.first; trees = λ bits at t. h.trees bits at (g.trees bits at t); same = λ bits at key t. h.same bits at key (g.trees bits at t) ∙ g.same bits at key t }
-
-pub begins-on : (a b : List Node) → Grows a b → BeginsEmpty a → BeginsEmpty b
-begins-on a b g e = g.first ∙ e
 
 -- ---- one key more
 
