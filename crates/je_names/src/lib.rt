@@ -5,9 +5,18 @@
 //! `specs/Scopes.antt`). No name of them has a fault.
 #![tactic(auto)]
 
+ghost use Rattle.je_names.specs.Laws.{NoScopesBesideAFault, ScopesAreOne};
+
 mod declaring;
 mod program;
 
 pub use declaring::declare;
 pub use name_judge::Refusal;
 pub use program::Scopes;
+
+/// Two scopes of the same units are alike, and units that have scopes have no fault of a name.
+#[tactic(auto, using(crate::proofs::One::scopes_one, crate::proofs::One::no_scopes))]
+pub fn scopes_are_one()
+    ensures one { ScopesAreOne }
+    ensures faultless { NoScopesBesideAFault }
+{}
