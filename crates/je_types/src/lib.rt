@@ -1,7 +1,8 @@
 //! Core programs that fit, over the library's classes.
 //!
 //! `Typed::check` takes a program whose library stands and answers it as a `Typed`, of which each part fits, or the first
-//! part that doesn't. Contracts see a `Typed` as its program (`program_of`). `library_place` says which row of the library's
+//! part that doesn't. Contracts see a `Typed` as its program (`program_of`). It tells in a short time where fields stand, which
+//! class is below which, and whether the program is plain. `library_place` says which row of the library's
 //! table a field or method of a library class has.
 #![tactic(auto)]
 

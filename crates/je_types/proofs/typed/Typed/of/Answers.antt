@@ -6,4 +6,6 @@ invariant_of-result c = record {
   small = ∣ c.requires.small ∣₁;
   fits = c.requires.fits;
   placed = c.requires.placed;
+  ordered = c.requires.ordered;
+  told = c.requires.told;
 }
