@@ -1,2 +1,3 @@
 pub mod Jumped
 pub mod Parts
+mod Rows

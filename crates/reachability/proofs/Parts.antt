@@ -1,15 +1,11 @@
 -- A group more, and a catch more.
 use Rattle.std.proofs.Common.{◌≡◌, refl}
-use Rattle.std.specs.Prelude.{Bool, ◌||◌}
-use Rattle.std.specs.List.{list_any}
+use Rattle.std.specs.Prelude.{Bool}
 use Rattle.je_core.specs.Core.{CoreGroup, CoreGroups, CoreCatch, CoreCatches, group, more_groups, catch, more_catches}
 use Rattle.flow_base.specs.FaultSets.{◌∪◌}
-use Rattle.reachability.specs.Reachable.{Ends, either, is_default, has_default, statement_ends, groups_end, catches_end, statement_faults, groups_faults, catches_faults}
-use Rattle.reachability.specs.way.Parts.{labels_of, group_ends, group_faults, body_of}
+use Rattle.reachability.specs.Reachable.{Ends, either, statement_ends, groups_end, catches_end, statement_faults, groups_faults, catches_faults}
+use Rattle.reachability.specs.way.Parts.{group_ends, group_faults, body_of}
 use Rattle.std.specs.Prelude.{None}
-
-pub default_step : (g : CoreGroup) (gs : CoreGroups) → has_default (more_groups g gs) ≡ (list_any is_default (labels_of g) || has_default gs)
-default_step (group labels parts) gs = refl
 
 pub groups_end_step : (r : Bool) (e : Ends) (g : CoreGroup) (gs : CoreGroups) → groups_end r e (more_groups g gs) ≡ groups_end r (group_ends r e g) gs
 groups_end_step r e (group labels parts) gs = refl

@@ -1,13 +1,13 @@
 -- Which statements can be reached, which can complete normally, and by which reachable jumps they are left (JLS 14.21).
 -- Whether a statement can be reached comes from what stands round it. `label` is the label directly before a statement.
-use Rattle.std.specs.Prelude.{Bool, true, false, not, ◌&&◌, ◌||◌, Option, Some, None, is_some, List, [], ◌∷◌, if◌then◌else◌}
-use Rattle.std.specs.List.{list_any}
+use Rattle.std.specs.Prelude.{Bool, true, false, not, ◌&&◌, ◌||◌, Option, Some, None, List, [], ◌∷◌, if◌then◌else◌}
 use Rattle.je_base.specs.declared.span.NameId.{NameId}
 use Rattle.je_core.specs.Core.{CoreStmt, CoreStmtForm, CoreStmts, MaybeStmt, CoreLabel, CoreGroups, CoreCatches, stmt, no_stmts, more_stmts, no_stmt, a_stmt, group, no_groups, more_groups, catch, no_catches, more_catches}
 use Rattle.je_core.specs.Core as core
 use Rattle.flow_base.specs.declared.faults.FaultKind.TheVariants as kind
 use Rattle.flow_base.specs.declared.jumps.Way.TheVariants.{Breaks, Continues}
 use Rattle.flow_base.specs.Constants.{is_true, is_false}
+use Rattle.flow_base.specs.Switches.{has_default}
 use Rattle.flow_base.specs.FaultSets.{Faults, none, ◌∪◌, fault_where}
 use Rattle.reachability.specs.Jumps.{Jumps, no_jumps, jump_where, joined, beyond}
 
@@ -48,13 +48,6 @@ loop_ends label inside by_condition =
 -- A labelled statement can complete normally where the statement behind the label can, or by a reachable break.
 abbrev pub labelled_ends : NameId → Ends → Ends
 labelled_ends label inside = ends (inside.completes || inside.jumps.by (Breaks (Some label))) (beyond (Breaks (Some label)) inside.jumps)
-
-abbrev pub is_default : CoreLabel → Bool
-is_default l = not (is_some l.value)
-
-abbrev pub has_default : CoreGroups → Bool
-has_default no_groups = false
-has_default (more_groups (group labels parts) gs) = list_any is_default labels || has_default gs
 
 -- A statement of a switch can be reached where the switch can, and it bears a label or the statement before it can complete normally.
 abbrev pub enters : Bool → List CoreLabel → Bool → Bool

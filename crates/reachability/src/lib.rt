@@ -2,8 +2,8 @@
 //!
 //! `judge_program` adds the faults of a whole program to those that were found: each statement that can't be reached, each
 //! initializer that can't complete normally, and each body that must return and can complete normally. A contract says which
-//! by the set of them (`specs/Reachable.antt`, `specs/Programs.antt`). `walk_statement` tells of a statement whether it can
-//! complete normally.
+//! by the set of them (`specs/Reachable.antt`, `specs/Programs.antt`). `walk_statement` and `completes` tell of a statement whether it
+//! can complete normally.
 #![tactic(auto)]
 
 mod jumps;
@@ -11,5 +11,5 @@ mod programs;
 mod statements;
 
 pub use jumps::Jumps;
-pub use programs::judge_program;
+pub use programs::{completes, judge_program};
 pub use statements::{Ends, walk_statement};

@@ -1,10 +1,10 @@
 // The faults of reachability of a whole program.
 
-ghost use Rattle.std.specs.Prelude.{◌≡◌, OnOk, map};
+ghost use Rattle.std.specs.Prelude.{◌≡◌, IfOk, OnOk, map};
 ghost use Rattle.je_core.specs.View.{stmt_view, stmt_view_if, initializer_view, method_view, class_view, program_view};
 ghost use Rattle.flow_base.specs.FaultSets.{of_each};
 ghost use Rattle.flow_base.specs.way.Kept.{first_of};
-ghost use Rattle.reachability.specs.Programs.{first_token as the_first_token, last_token as the_last_token, is_void_base as the_is_void_base, must_return as the_must_return, body_faults, method_faults, initializer_faults, initializer_body_faults, class_faults, program_faults};
+ghost use Rattle.reachability.specs.Programs.{completes as the_completes, first_token as the_first_token, last_token as the_last_token, is_void_base as the_is_void_base, must_return as the_must_return, body_faults, method_faults, initializer_faults, initializer_body_faults, class_faults, program_faults};
 
 use crate::statements::walk_statement;
 use flow_base::{FaultKind, FirstFault};
@@ -126,4 +126,13 @@ fn last_token(statement: &Stmt) -> Span
     ensures { result ≡ the_last_token (stmt_view statement.now) }
 {
     statement.at
+}
+
+/// Whether a statement can complete normally where it can be reached.
+pub fn completes(alloc: Global, statement: &Stmt) -> Result<bool, Memory>
+    ensures { IfOk result (λ c. c ≡ the_completes (stmt_view statement.now)) }
+{
+    let mut found = FirstFault::none();
+    let ends = walk_statement(alloc, statement, None, true, &mut found)?;
+    Ok(ends.completes)
 }

@@ -1,17 +1,16 @@
 // Which statements can be reached, and which can complete normally.
 
 ghost use Rattle.std.specs.Prelude.{◌≡◌, IfOk, OnOk, None, map, if◌then◌else◌};
-ghost use Rattle.std.specs.List.{list_any};
 ghost use Rattle.je_core.specs.Core.{core_stmts, maybe_stmt, core_groups, core_catches};
 ghost use Rattle.je_core.specs.View.{stmt_view, stmt_form_view, stmt_views, stmt_view_if, group_view, catch_view, label_view};
 ghost use Rattle.flow_base.specs.way.Kept.{first_of};
-ghost use Rattle.reachability.specs.Reachable.{ends as the_ends, going_on as the_going_on, either as the_either, in_turn as the_in_turn, is_continued as the_is_continued, past_label as the_past_label, loop_ends, labelled_ends, is_default, has_default as the_has_default, enters as the_enters, switch_ends, past_finally as the_past_finally, jump_ends, statement_ends, form_ends, parts_end, part_ends, groups_end, catches_end, last_ends, statement_faults, form_faults, parts_faults, part_faults, groups_faults, catches_faults};
+ghost use Rattle.reachability.specs.Reachable.{ends as the_ends, going_on as the_going_on, either as the_either, in_turn as the_in_turn, is_continued as the_is_continued, past_label as the_past_label, loop_ends, labelled_ends, enters as the_enters, switch_ends, past_finally as the_past_finally, jump_ends, statement_ends, form_ends, parts_end, part_ends, groups_end, catches_end, last_ends, statement_faults, form_faults, parts_faults, part_faults, groups_faults, catches_faults};
 ghost use Rattle.reachability.specs.Jumps.{no_jumps};
 ghost use Rattle.reachability.specs.View.{ends_view, jumps_view};
-ghost use Rattle.reachability.specs.way.Parts.{labels_of, group_ends, group_faults, body_of};
+ghost use Rattle.reachability.specs.way.Parts.{group_ends, group_faults, body_of};
 
 use crate::jumps::Jumps;
-use flow_base::{FaultKind, FirstFault, Way, is_constantly};
+use flow_base::{FaultKind, FirstFault, Way, has_default, is_constantly};
 use je_core::{Catch, Group, Label, Memory, NameId, Span, Stmt, StmtForm};
 use std::alloc::Global;
 use std::rc::Rc;
@@ -355,37 +354,6 @@ fn enters(labels: &[Label], reachable: bool, before: bool) -> bool
         return reachable && before;
     }
     reachable
-}
-
-// Whether some group has the label `default`.
-#[tactic(auto, using(crate::proofs::Parts::default_step))]
-fn has_default(groups: &[Group]) -> bool
-    ensures { result ≡ the_has_default (core_groups (map group_view groups.now)) }
-{
-    for group in groups {
-        if is_default_group(group) {
-            return true;
-        }
-    }
-    false
-}
-
-#[tactic(auto, using(je_core::proofs::Views::parts_seen))]
-fn is_default_group(group: &Group) -> bool
-    ensures { result ≡ list_any is_default (labels_of (group_view group.now)) }
-{
-    has_default_label(&group.labels)
-}
-
-fn has_default_label(labels: &[Label]) -> bool
-    ensures { result ≡ list_any is_default (map label_view labels.now) }
-{
-    for label in labels {
-        if label.value.is_none() {
-            return true;
-        }
-    }
-    false
 }
 
 // How a switch ends, by its groups.

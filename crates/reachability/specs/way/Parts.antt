@@ -1,11 +1,8 @@
 -- A group and a catch by themselves.
-use Rattle.std.specs.Prelude.{Bool, List}
-use Rattle.je_core.specs.Core.{CoreStmt, CoreLabel, CoreGroup, CoreCatch, group, catch}
+use Rattle.std.specs.Prelude.{Bool}
+use Rattle.je_core.specs.Core.{CoreStmt, CoreGroup, CoreCatch, group, catch}
 use Rattle.flow_base.specs.FaultSets.{Faults}
 use Rattle.reachability.specs.Reachable.{Ends, ends, enters, parts_end, parts_faults}
-
-abbrev pub labels_of : CoreGroup → List CoreLabel
-labels_of (group labels parts) = labels
 
 abbrev pub group_ends : Bool → Ends → CoreGroup → Ends
 group_ends reachable before (group labels parts) = parts_end (ends (enters reachable labels before.completes) before.jumps) parts

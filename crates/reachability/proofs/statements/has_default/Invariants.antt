@@ -1,8 +1,0 @@
-use Rattle.std.proofs.Common.{◌≡◌, drop, map}
-use Rattle.je_core.specs.Core.{core_groups}
-use Rattle.je_core.specs.View.{group_view}
-use Rattle.reachability.specs.Reachable.{has_default}
-use Rattle.reachability.proofs.statements.has_default.Given as goal
-
-abbrev pub invariant-loop-group : goal.invariant-loop-group
-invariant-loop-group l = has_default (core_groups (map group_view (drop l.group-index l.groups))) ≡ has_default (core_groups (map group_view l.groups))
