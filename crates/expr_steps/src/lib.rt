@@ -1,0 +1,14 @@
+//! The steps of typing expressions, one function for each step of `je_typing`, of what the parts of an expression came to.
+//!
+//! `Ok` comes only where the step gives, with that node and type; `Err` with a fault only where the step is faulty with it; else
+//! memory was wanting.
+#![tactic(auto)]
+
+mod assignments;
+mod literals;
+mod typed;
+mod types;
+
+pub use assignments::stepped;
+pub use literals::{literal, negative_int_literal, negative_long_literal};
+pub use typed::TypedExpr;
