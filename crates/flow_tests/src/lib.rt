@@ -1,0 +1,9 @@
+//! Tests of the rules of flow, with ample memory.
+#![tactic(auto)]
+
+#[cfg(test)]
+mod assigning;
+#[cfg(test)]
+mod reaching;
+#[cfg(test)]
+mod trees;
