@@ -2,9 +2,10 @@
 
 ghost use Rattle.std.specs.Prelude.{◌≤◌};
 
+use crate::hierarchy::{A, B, D, TAKES};
 use crate::nodes::{INT, ONLY};
 use crate::samples::{Sample, program_of};
-use je_core::{Memory, Obj, Program, Slots, Units, Value};
+use je_core::{ClassId, Memory, Obj, ObjId, Program, Slots, Units, Value};
 use je_heap::Heap;
 use je_interp::{Call, Next, Receiver};
 use machine_moves::advance::advance;
@@ -14,24 +15,28 @@ use machine_parts::stack::Stack;
 use std::alloc::Global;
 use std::process::Abort;
 
-// How a call of the class's first method ends in a heap, and the units that it took.
-fn run_in(
-    alloc: Global,
-    heap: &mut Heap,
-    program: &Program,
-    arg: i32,
-    units: u64,
-) -> Result<(Option<Next>, u64), Memory>
-    requires { units ≤ 100000000 }
-{
+// A call of the first class's first method.
+fn call_with(alloc: Global, arg: i32) -> Result<Call, Memory> {
     let mut args = Slots::new(alloc);
     args.push(Value::Int(arg))?;
-    let call = Call {
+    Ok(Call {
         class: ONLY,
         method: 0,
         receiver: Receiver::None,
         args,
-    };
+    })
+}
+
+// How a call ends in a heap, and the units that it took.
+fn run_in(
+    alloc: Global,
+    heap: &mut Heap,
+    program: &Program,
+    call: Call,
+    units: u64,
+) -> Result<(Option<Next>, u64), Memory>
+    requires { units ≤ 100000000 }
+{
     let mut context = Context {
         alloc,
         frames: Stack::new(alloc),
@@ -59,6 +64,10 @@ fn gave(value: i32) -> Option<Next> {
     Some(Next::Done(Some(Value::Int(value))))
 }
 
+fn thrown(object: u64) -> Option<Next> {
+    Some(Next::Thrown(ObjId(object)))
+}
+
 const SPENT: Option<Next> = Some(Next::Spent);
 
 // A call of a program with an int and so many units, how it ends, and how many units it takes.
@@ -70,7 +79,7 @@ fn answer(rt: &impl Abort, alloc: Global, heap: &mut Heap, rows: &[Row]) -> Resu
         let program = program_of(alloc, *program)?;
         if *units <= 100000000 {
             assert_eq!(rt;
-                run_in(alloc, heap, &program, *arg, *units)?,
+                run_in(alloc, heap, &program, call_with(alloc, *arg)?, *units)?,
                 (*want, *cost)
             );
         }
@@ -149,4 +158,62 @@ fn class_variables_answer_as_java_does(rt: HostRuntime) -> Result<(), Memory> {
         (Sample::Compares(99), 9, 100, None, 6),
     ];
     answer(&rt, rt.alloc(), &mut heap, &rows)
+}
+
+#[test]
+fn superclasses_answer_as_java_does(rt: HostRuntime) -> Result<(), Memory> {
+    let mut heap = Heap::new(rt.alloc(), 0)?;
+    let rows = [
+        // Block, Return, CallVirtual, New, Local, the slot, the body's 5, and the body's 10
+        (Sample::Sums(A), 7, 100, gave(8), 21),
+        // two slots; the superclass's method reads its field, and calls the class's own method
+        (Sample::Sums(B), 7, 100, gave(10), 22),
+        (Sample::Sums(B), 7, 6, SPENT, 5),
+    ];
+    answer(&rt, rt.alloc(), &mut heap, &rows)
+}
+
+#[test]
+fn bridges_answer_as_java_does(rt: HostRuntime) -> Result<(), Memory> {
+    let mut heap = Heap::new(rt.alloc(), 0)?;
+    let rows = [
+        // Block, Return, CallVirtual, New, Local, the slot, the body's 5, the same for the argument, and the body's 3
+        (Sample::Takes(A, Some(A)), 7, 100, gave(2), 22),
+        (Sample::Takes(A, None), 7, 100, gave(2), 15),
+        // two slots of a B, and none of a D, whose constructor's body is a Block
+        (Sample::Takes(B, Some(D)), 7, 100, gave(4), 18),
+        (Sample::Takes(B, None), 7, 100, gave(4), 16),
+        // an A is no D: no body begins, and the exception is the ninth object
+        (Sample::Takes(B, Some(A)), 7, 100, thrown(8), 20),
+    ];
+    answer(&rt, rt.alloc(), &mut heap, &rows)
+}
+
+// A call of A's method with an instance of a class, on the heap's first object.
+fn taking(alloc: Global, heap: &mut Heap, class: ClassId) -> Result<Call, Memory> {
+    let given = heap.alloc_obj(Obj::Instance(class, Slots::new(alloc)))?;
+    let mut args = Slots::new(alloc);
+    args.push(Value::Ref(given))?;
+    Ok(Call {
+        class: A,
+        method: TAKES,
+        receiver: Receiver::Object(ObjId(0)),
+        args,
+    })
+}
+
+#[test]
+fn calls_from_outside_are_tested(rt: HostRuntime) -> Result<(), Memory> {
+    let alloc = rt.alloc();
+    let program = program_of(alloc, Sample::Takes(B, None))?;
+    let mut heap = Heap::new(alloc, 0)?;
+    heap.alloc_obj(Obj::Instance(B, Slots::new(alloc)))?;
+    let call = taking(alloc, &mut heap, D)?;
+    assert_eq!(rt; run_in(alloc, &mut heap, &program, call, 3)?, (gave(4), 3));
+    let call = taking(alloc, &mut heap, A)?;
+    assert_eq!(rt;
+        run_in(alloc, &mut heap, &program, call, 3)?,
+        (thrown(3), 0)
+    );
+    Ok(())
 }

@@ -135,9 +135,9 @@ pub fn method(alloc: Global, is_static: bool, parts: Vec<Rc<Stmt>>) -> Result<Me
     })
 }
 
-// A class of two methods and two fields, of which the first is static.
-pub fn program(alloc: Global, first: Method, second: Option<Method>) -> Result<Program, Memory> {
-    let field = |is_static: bool| Field {
+// A field of type int.
+pub fn variable(is_static: bool) -> Field {
+    Field {
         name: NameId(0),
         span: NOWHERE,
         ty: INT,
@@ -145,8 +145,16 @@ pub fn program(alloc: Global, first: Method, second: Option<Method>) -> Result<P
         is_final: false,
         access: Access::Package,
         constant: None,
-    };
-    let class = Class {
+    }
+}
+
+// A class without fields.
+pub fn class(
+    alloc: Global,
+    superclass: Option<ClassId>,
+    methods: Vec<Method>,
+) -> Result<Class, Memory> {
+    Ok(Class {
         name: NameId(0),
         span: NOWHERE,
         kind: Kind {
@@ -155,19 +163,26 @@ pub fn program(alloc: Global, first: Method, second: Option<Method>) -> Result<P
             is_final: false,
             is_static: false,
         },
-        superclass: None,
+        superclass,
         interfaces: Vec::new(alloc),
         heads: Vec::new(alloc),
-        fields: list(alloc, Some(field(true)), Some(field(false)))?,
+        fields: Vec::new(alloc),
         initializers: Vec::new(alloc),
-        methods: list(alloc, Some(first), second)?,
+        methods,
         enclosing: None,
         captured: 0,
         within: None,
         nth: 0,
         top: ONLY,
         bridges: Vec::new(alloc),
-    };
+    })
+}
+
+// A class of two methods and two fields, of which the first is static.
+pub fn program(alloc: Global, first: Method, second: Option<Method>) -> Result<Program, Memory> {
+    let methods = list(alloc, Some(first), second)?;
+    let mut class = class(alloc, None, methods)?;
+    class.fields = list(alloc, Some(variable(true)), Some(variable(false)))?;
     Ok(Program {
         classes: list(alloc, Some(class), None)?,
         texts: Vec::new(alloc),

@@ -1,10 +1,11 @@
-// Small programs, each of one class with a static int method f of an int x.
+// Small programs, each with a static int method f of an int x in its first class.
 
+use crate::hierarchy::{sums, takes};
 use crate::nodes::{
     INTS, NOWHERE, ONLY, assign, binary, constant, field, gives, letter, list, local, method, node,
     null, program, returning, statement, text, typed,
 };
-use je_core::{Base, BinOp, Capture, Expr, Form, Memory, Program, Stmt, StmtForm, Ty};
+use je_core::{Base, BinOp, Capture, ClassId, Expr, Form, Memory, Program, Stmt, StmtForm, Ty};
 use std::alloc::Global;
 use std::rc::Rc;
 
@@ -23,6 +24,10 @@ pub enum Sample {
     DropsNull,
     /// Compares a string of one letter with that of this letter.
     Compares(u16),
+    /// Sums a field and what a method gives, in an instance of this class.
+    Sums(ClassId),
+    /// Hands an instance of the first class one of the second, or null.
+    Takes(ClassId, Option<ClassId>),
 }
 
 pub fn program_of(alloc: Global, sample: Sample) -> Result<Program, Memory> {
@@ -38,6 +43,8 @@ pub fn program_of(alloc: Global, sample: Sample) -> Result<Program, Memory> {
         Sample::CountsOn => counts_on(alloc),
         Sample::DropsNull => drops_null(alloc),
         Sample::Compares(right) => compares(alloc, right),
+        Sample::Sums(class) => sums(alloc, class),
+        Sample::Takes(class, given) => takes(alloc, class, given),
     }
 }
 
