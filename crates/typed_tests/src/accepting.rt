@@ -1,117 +1,29 @@
-// The library alone is accepted, and a class beside it that doesn't fit is named. What a name finds in the library (JLS 15.12.2).
+// Programs of the library alone: what a name finds in them (JLS 15.12.2), and where fields stand.
 
-ghost use Rattle.std.specs.Prelude.{◌≡◌, ◌++◌, ◌∷◌, [], IfOk, IfSome};
-ghost use Rattle.je_core.specs.View.{class_view, program_view};
-ghost use Rattle.je_classes.specs.Hierarchy.{IsAcyclic};
+ghost use Rattle.std.specs.Prelude.{◌≡◌, IfOk};
+ghost use Rattle.je_core.specs.View.{program_view};
 ghost use Rattle.class_names.specs.Words.{AreNumbered, library_words as the_library_words};
 ghost use Rattle.library_classes.specs.Library.{LibraryStands};
-ghost use Rattle.je_types.specs.Limits.{IsSmall};
-ghost use Rattle.je_types.specs.Views.{program_of};
 
-use class_names::library_words;
-use je_core::{Base, Class, ClassId, Kind, Memory, NameId, Names, Program, Sort, Span, Ty};
-use je_fitting::fitting_is_acyclic;
-use je_types::{CheckFault, Typed, is_small};
-use library_classes::library_classes;
+use crate::guests::{A, B, C, D, E, NO_CLASS, OBJECT, STRING, array, object};
+use crate::programs::{checked, library, names_of_library};
+use crate::trying::small_program;
+use je_core::{Base, ClassId, Memory, Names, Program};
 use member_lookup::{Found, find_field};
 use method_lookup::find_method;
 use std::alloc::Global;
 
-const NOWHERE: Span = Span {
-    file: 0,
-    start: 0,
-    end: 0,
-};
-
-fn names_of_library(alloc: Global) -> Result<Names, Memory>
-    ensures { IfOk result (λ names. AreNumbered names the_library_words) }
-{
-    let mut names = Names::new(alloc);
-    library_words(&mut names)?;
-    Ok(names)
-}
-
 // A program of the library alone.
-#[tactic(auto, using(crate::proofs::Standing::alone), unfolding(je_core::specs::View::program_view))]
+#[tactic(auto, using(crate::proofs::Standing::stands), unfolding(je_core::specs::View::program_view))]
 fn library_alone(alloc: Global, names: &Names) -> Result<Program, Memory>
     requires { AreNumbered names.now the_library_words }
     ensures { IfOk result (λ program. LibraryStands (program_view program)) }
 {
-    let classes = library_classes(alloc, names)?;
+    let classes = library(alloc, names)?;
     Ok(Program {
         classes,
         texts: Vec::new(alloc),
     })
-}
-
-// A program of the library and one class more.
-fn library_and(alloc: Global, names: &Names, other: Class) -> Result<Program, Memory>
-    requires { AreNumbered names.now the_library_words }
-    ensures { IfOk result (λ program. LibraryStands (program_view program)) }
-{
-    let mut classes = library_classes(alloc, names)?;
-    classes.push(other)?;
-    Ok(Program {
-        classes,
-        texts: Vec::new(alloc),
-    })
-}
-
-// A class below a class that isn't there.
-fn class_without_super(alloc: Global, name: NameId) -> Class {
-    Class {
-        name,
-        span: NOWHERE,
-        kind: Kind {
-            sort: Sort::Class,
-            is_abstract: false,
-            is_final: false,
-            is_static: false,
-        },
-        superclass: Some(ClassId(99)),
-        interfaces: Vec::new(alloc),
-        heads: Vec::new(alloc),
-        fields: Vec::new(alloc),
-        initializers: Vec::new(alloc),
-        methods: Vec::new(alloc),
-        enclosing: None,
-        captured: 0,
-        within: None,
-        nth: 0,
-        top: ClassId(39),
-        bridges: Vec::new(alloc),
-    }
-}
-
-// What the check says of a program that is small.
-#[tactic(auto, using(crate::proofs::Standing::acyclic))]
-fn checked(alloc: Global, program: Program) -> Option<Result<Typed, CheckFault>>
-    requires { LibraryStands (program_view program) }
-    ensures { IfSome result (λ checked. IfOk checked (λ typed. IsAcyclic (program_of typed))) }
-{
-    fitting_is_acyclic();
-    if !is_small(&program) {
-        return None;
-    }
-    Some(Typed::check(alloc, program))
-}
-
-#[test]
-fn a_class_that_does_not_fit_is_named(rt: HostRuntime) -> Result<(), Memory> {
-    let alloc = rt.alloc();
-    let names = names_of_library(alloc)?;
-    let class = class_without_super(alloc, NameId(5));
-    let program = library_and(alloc, &names, class)?;
-    let Some(Err(fault)) = checked(alloc, program) else {
-        assert_eq!(rt; false, true);
-        return Ok(());
-    };
-    assert_eq!(rt; fault, CheckFault::Misfit(ClassId(39), NameId(5)));
-    Ok(())
-}
-
-fn of(base: Base) -> Ty {
-    Ty { base, dims: 0 }
 }
 
 #[test]
@@ -123,12 +35,12 @@ fn names_find_members_in_an_accepted_program(rt: HostRuntime) -> Result<(), Memo
         assert_eq!(rt; false, true);
         return Ok(());
     };
-    let string = of(Base::Class(ClassId(1)));
+    let string = object(STRING);
     let rows = [
         // of two with one parameter, the one whose parameter takes the argument; a short widens to int
         ("indexOf", string, Found::One(ClassId(1), 6)),
-        ("indexOf", of(Base::Short), Found::One(ClassId(1), 7)),
-        ("valueOf", of(Base::Short), Found::One(ClassId(1), 19)),
+        ("indexOf", array(Base::Short, 0), Found::One(ClassId(1), 7)),
+        ("valueOf", array(Base::Short, 0), Found::One(ClassId(1), 19)),
         ("valueOf", string, Found::Nothing),
         // its own one, and none of Object's beside it
         ("equals", string, Found::One(ClassId(1), 4)),
@@ -176,5 +88,55 @@ fn fields_of_an_accepted_program_have_places(rt: HostRuntime) -> Result<(), Memo
     assert_eq!(rt; typed.static_place(integer, 1), Some(1));
     assert_eq!(rt; typed.static_place(long, 0), Some(2));
     assert_eq!(rt; typed.slot(long, 0), None);
+    Ok(())
+}
+
+// The small program's fields, each by its class and its number there, with its slot and its place among the static fields.
+#[test]
+fn fields_of_guests_have_places(rt: HostRuntime) -> Result<(), Memory> {
+    let alloc = rt.alloc();
+    let names = names_of_library(alloc)?;
+    let program = small_program(alloc, &names)?;
+    let Some(Ok(typed)) = checked(alloc, program) else {
+        assert_eq!(rt; false, true);
+        return Ok(());
+    };
+    let rows = [
+        (A, 0, Some(0), None),
+        (A, 1, Some(1), None),
+        // behind the static fields of Integer and Long
+        (A, 2, None, Some(4)),
+        (A, 4, None, Some(6)),
+        (A, 5, None, None),
+        // behind the fields of A, which is above B, which is above C; it hides one
+        (C, 0, None, Some(7)),
+        (C, 1, Some(2), None),
+        // the outer instance and a captured local; an enum's name, ordinal and constant
+        (D, 0, Some(0), None),
+        (D, 1, Some(1), None),
+        (E, 1, Some(1), None),
+        (E, 2, None, Some(8)),
+        (NO_CLASS, 0, None, None),
+    ];
+    for (class, at, slot, place) in rows {
+        let class = ClassId(class);
+        let found = (typed.slot(class, at), typed.static_place(class, at));
+        assert_eq!(rt; found, (slot, place));
+    }
+    let counts = [
+        (OBJECT, 0, 0),
+        (A, 0, 2),
+        (B, 2, 2),
+        (C, 2, 3),
+        (D, 0, 2),
+        (NO_CLASS, 0, 0),
+    ];
+    for (class, first, count) in counts {
+        let class = ClassId(class);
+        assert_eq!(rt;
+            (typed.first_slot(class), typed.slot_count(class)),
+            (first, count)
+        );
+    }
     Ok(())
 }
