@@ -15,7 +15,7 @@ use std::alloc::Global;
 
 // A program of the library alone.
 #[tactic(auto, using(crate::proofs::Standing::stands), unfolding(je_core::specs::View::program_view))]
-fn library_alone(alloc: Global, names: &Names) -> Result<Program, Memory>
+pub fn library_alone(alloc: Global, names: &Names) -> Result<Program, Memory>
     requires { AreNumbered names.now the_library_words }
     ensures { IfOk result (λ program. LibraryStands (program_view program)) }
 {

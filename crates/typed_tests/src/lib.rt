@@ -25,4 +25,6 @@ mod refusing;
 #[cfg(test)]
 mod statements;
 #[cfg(test)]
+mod telling;
+#[cfg(test)]
 mod trying;
