@@ -8,14 +8,15 @@ use crate::texts::tokens_of;
 use declarations::ClassDecl;
 use je_ast::Unit;
 use je_base::Names;
+use je_core::Access;
 use je_names::{Refusal, declare};
 use name_faults::FaultKind;
 use parse_decl::unit;
 use std::alloc::Global;
 use std::test::Fail;
 
-// A text of at most 1,000 tokens that is one unit.
-fn program_of(alloc: Global, text: &str) -> Option<(Vec<Unit>, Names)>
+/// A text of at most 1,000 tokens that is one unit.
+pub fn program_of(alloc: Global, text: &str) -> Option<(Vec<Unit>, Names)>
     ensures small { IfSome result (λ p. units_size (map unit_view p.0.items) ≤ 2 ^ 26) }
     ensures names { IfSome result (λ p. length p.1 < 2 ^ 32) }
 {
@@ -134,6 +135,31 @@ fn members_are_declared_in_order(rt: HostRuntime) -> Result<(), Fail> {
     };
     assert_eq!(rt; declared, Some([(0, 0, 2, 0), (1, 1, 3, 4)]));
     Ok(())
+}
+
+#[test]
+fn what_stands_in_an_interface_is_public_or_not(rt: HostRuntime) -> Result<(), Fail> {
+    // an interface of its package, its member class, and an anonymous class, which is no member
+    let text = "interface I { class M { } Object o = new Object() { }; }";
+    let declared = match program_of(rt.alloc(), text) {
+        Some((units, names)) => accesses(rt.alloc(), &units, &names),
+        None => None,
+    };
+    let wanted = [Access::Package, Access::Public, Access::Package];
+    assert_eq!(rt; declared, Some(wanted));
+    Ok(())
+}
+
+// The access of each of three classes of a program.
+fn accesses(alloc: Global, units: &[Unit], names: &Names) -> Option<[Access; 3]>
+    requires small { units_size (map unit_view units.now) ≤ 2 ^ 26 }
+    requires few_names { length names.now < 2 ^ 32 }
+{
+    let scopes = declare(alloc, units, names).ok()?;
+    let first = scopes.classes.get(39)?;
+    let second = scopes.classes.get(40)?;
+    let third = scopes.classes.get(41)?;
+    Some([first.access, second.access, third.access])
 }
 
 // Of each of two classes of a program how many type parameters, types above it, fields and methods it declares.

@@ -2,6 +2,8 @@
 #![tactic(auto)]
 
 #[cfg(test)]
+mod binary;
+#[cfg(test)]
 mod declaring;
 #[cfg(test)]
 mod texts;
