@@ -8,7 +8,7 @@ ghost use Rattle.je_fitting.specs.Classes.{can_be_extended as the_can_be_extende
 ghost use Rattle.je_fitting.specs.way.DecidingClasses.{is_top as the_is_top, is_superclass_fit, are_supers_fit};
 
 use class_members::same_class;
-use fit_members::is_interface;
+use fit_members::{is_interface, names_interface};
 use je_classes::{class_count, is_below, object_class};
 use je_core::{Class, ClassId, Memory, Program};
 use std::alloc::Global;
@@ -37,15 +37,6 @@ fn superclass_fits(program: &Program, id: ClassId, class: &Class) -> bool
     match class.superclass {
         None => is_top(id, class),
         Some(superclass) => !is_top(id, class) && can_be_extended(program, superclass),
-    }
-}
-
-fn names_interface(program: &Program, class: ClassId) -> bool
-    ensures { result ≡ the_is_interface (class_at (program_view program.now) class) }
-{
-    match program.class(class) {
-        None => false,
-        Some(class) => is_interface(class),
     }
 }
 

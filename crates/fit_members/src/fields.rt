@@ -7,6 +7,7 @@ ghost use Rattle.je_fitting.specs.Members.{is_constant_form, static_body as the_
 ghost use Rattle.je_fitting.specs.way.DecidingMembers.{is_field_fit, is_constant_fit};
 
 use crate::bodies::static_body;
+use crate::heads::names_interface;
 use class_members::same_type;
 use fit_nodes::expression_fits;
 use fit_parts::{is_variable_type, type_of};
@@ -65,6 +66,9 @@ pub fn field_fits(
         is_field_fit (program_view program.now) class (field_view field.now)) }
 {
     if !is_variable_type(program, field.ty) {
+        return Ok(false);
+    }
+    if names_interface(program, class) && !field.is_static {
         return Ok(false);
     }
     match &field.constant {

@@ -5,6 +5,7 @@ ghost use Rattle.std.specs.List.{list_all};
 ghost use Rattle.je_core.specs.View.{class_view, method_view, program_view};
 ghost use Rattle.je_classes.specs.Hierarchy.{class_at};
 ghost use Rattle.je_fitting.specs.Expressions.{is_interface_sort};
+ghost use Rattle.je_fitting.specs.Members.{is_interface as the_is_interface};
 ghost use Rattle.je_fitting.specs.Types.{is_void as the_is_void};
 ghost use Rattle.je_fitting.specs.way.DecidingMembers.{is_method_head_fit};
 
@@ -19,6 +20,16 @@ pub fn is_interface(class: &Class) -> bool
     match class.kind.sort {
         Sort::Interface => true,
         _ => false,
+    }
+}
+
+/// Whether a class of this number is there and is an interface.
+pub fn names_interface(program: &Program, class: ClassId) -> bool
+    ensures { result ≡ the_is_interface (class_at (program_view program.now) class) }
+{
+    match program.class(class) {
+        None => false,
+        Some(class) => is_interface(class),
     }
 }
 

@@ -13,7 +13,7 @@ mod overriding;
 mod variables;
 
 pub use fields::field_fits;
-pub use heads::is_interface;
+pub use heads::{is_interface, names_interface};
 pub use initializers::initializer_fits;
 pub use methods::method_fits;
 pub use overriding::stands_for;

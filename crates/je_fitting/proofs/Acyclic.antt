@@ -1,5 +1,5 @@
 -- In a program that fits no class is above itself: how many classes are above one falls with each super.
-use Rattle.std.proofs.Common.{◌≡◌, ℕ, zero, suc, ◌+◌, ◌<◌, ◌≤◌, List, [], ◌∷◌, length, get_or, Some, None, refl, sym, subst, arith}
+use Rattle.std.proofs.Common.{◌≡◌, ℕ, ◌<◌, List, [], ◌∷◌, length, get_or, Some, None, refl, sym, subst, arith}
 use Rattle.std.specs.Prelude.{Bool, true, false, not, ◌&&◌, Option, is_some, slice_get, nat_eq}
 use Rattle.std.specs.List.{All, Contains}
 use Rattle.std.proofs.lemmas.Bool.Decides.{nat_tests}

@@ -16,7 +16,7 @@ use Rattle.je_fitting.specs.Types.{void, is_void, is_variable_type, types_of}
 use Rattle.je_fitting.specs.Expressions.{Code, constructor, method, instance_initializer, static_initializer, Body, is_this, method_at, is_constructor, is_interface_sort}
 use Rattle.je_fitting.specs.Statements.{no_targets, LocalsThere, StatementFits, StatementsFit}
 use Rattle.je_fitting.specs.Statements as fits
-use Rattle.je_fitting.specs.Members.{is_guest, local_types, AreVariables, static_body, ConstantFits, FieldFits, HeadFits, head_call, BodyFits, a_block, behind_a_call, body_of, StandsFor, IsOverridden, MethodFits, initializer_body, InitializerFits}
+use Rattle.je_fitting.specs.Members.{is_guest, is_interface, local_types, AreVariables, static_body, ConstantFits, FieldFits, HeadFits, head_call, BodyFits, a_block, behind_a_call, body_of, StandsFor, IsOverridden, MethodFits, initializer_body, InitializerFits}
 use Rattle.je_fitting.specs.way.Deciding.{is_fit, are_fit, is_made_by}
 use Rattle.je_fitting.specs.way.DecidingStatements.{locals_there, are_statements_fit}
 use Rattle.je_fitting.specs.way.Quantifying.{implies, if_there, each_method}
@@ -85,11 +85,14 @@ module _ (p : CoreProgram) where
   constant-complete class f e k = both (both (both (both k.is_static k.is_final) k.is_constant) (complete p (static_body class []) e k.fits)) k.of_its_type
 
   pub field_sound : (class : ClassId) (f : CoreField) → is_field_fit p class f ≡ true → FieldFits p class f
-  field_sound class f h = let q = two h in
-      record { type = q.0; constant = λ e there. constant-sound class f e (on-there (is_constant_fit p class f) f.constant q.1 e there) }
+  field_sound class f h = let q = three h in record {
+    type = q.0;
+    of_interface = implied q.1;
+    constant = λ e there. constant-sound class f e (on-there (is_constant_fit p class f) f.constant q.2 e there);
+  }
 
   pub field_complete : (class : ClassId) (f : CoreField) → FieldFits p class f → is_field_fit p class f ≡ true
-  field_complete class f k = both k.type (if-there (is_constant_fit p class f) f.constant (λ e there. constant-complete class f e (k.constant e there)))
+  field_complete class f k = both (both k.type (implying (is_interface (class_at p class)) f.is_static k.of_interface)) (if-there (is_constant_fit p class f) f.constant (λ e there. constant-complete class f e (k.constant e there)))
 
   -- ---- bodies
 

@@ -196,6 +196,14 @@ body_of_an_abstract_method : is_program_fit (program (record class_i { methods =
 unfolding is_subtype is_below object_class library_class constructor_place implemented dispatched
 body_of_an_abstract_method = refl
 
+instance_field_in_an_interface : is_program_fit (program (record class_i { fields = field int Public true ∷ [] }) class_a class_b) ≡ false
+unfolding is_subtype is_below object_class library_class constructor_place implemented dispatched
+instance_field_in_an_interface = refl
+
+static_field_in_an_interface : is_program_fit (program (record class_i { fields = (let f : CoreField = field int Public true in record f { is_static = true }) ∷ [] }) class_a class_b) ≡ true
+unfolding is_subtype is_below object_class library_class constructor_place implemented dispatched
+static_field_in_an_interface = refl
+
 body_in_an_interface : is_program_fit (program (record class_i { methods = method 3 [] object [] (block (s (core.Return (Some nothing)) ∷ [])) ∷ [] }) class_a class_b) ≡ false
 unfolding is_subtype is_below object_class library_class constructor_place implemented dispatched
 body_in_an_interface = refl

@@ -14,6 +14,7 @@ use Rattle.je_classes.specs.Members.{Member, same_name, is_hidden_access, is_pri
 use Rattle.je_classes.specs.Dispatch.{implemented, dispatched}
 use Rattle.je_fitting.specs.Types.{int, string, is_primitive}
 use Rattle.je_fitting.specs.Expressions.{outer_count, method_at, is_constructor, is_interface_sort, can_be_made}
+pub use Rattle.je_fitting.specs.Members.{is_interface}
 use Rattle.je_fitting.specs.Members.{is_guest, results_agree, StandsFor, InitializerFits}
 
 -- ---- supers
@@ -22,10 +23,6 @@ use Rattle.je_fitting.specs.Members.{is_guest, results_agree, StandsFor, Initial
 abbrev pub can_be_extended : Option CoreClass → Bool
 can_be_extended None = false
 can_be_extended (Some class) = not (is_interface_sort class.kind.sort || class.kind.is_final)
-
-abbrev pub is_interface : Option CoreClass → Bool
-is_interface None = false
-is_interface (Some class) = is_interface_sort class.kind.sort
 
 -- Object and the interfaces have no superclass, and every other class has one.
 pub data SuperclassFits (program : CoreProgram) (class : ClassId) (c : CoreClass) : Option ClassId → Type 0 where

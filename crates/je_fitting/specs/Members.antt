@@ -44,8 +44,13 @@ pub record ConstantFits (program : CoreProgram) (class : ClassId) (f : CoreField
   pub fits : Fits program (static_body class []) e
   pub of_its_type : same_type (ty_of e) f.ty ≡ true
 
+abbrev pub is_interface : Option CoreClass → Bool
+is_interface None = false
+is_interface (Some class) = is_interface_sort class.kind.sort
+
 pub record FieldFits (program : CoreProgram) (class : ClassId) (f : CoreField) : Type 0 where
   pub type : is_variable_type program f.ty ≡ true
+  pub of_interface : is_interface (class_at program class) ≡ true → f.is_static ≡ true
   pub constant : (e : Core) → f.constant ≡ Some e → ConstantFits program class f e
 
 -- ---- bodies

@@ -14,9 +14,9 @@ use Rattle.je_classes.proofs.Lists.{contains-cases}
 use Rattle.class_tables.proofs.Totals.{slots-are}
 use Rattle.je_fitting.specs.Classes.{is_interface, SuperclassFits, none_above, one_above, ClassFits}
 use Rattle.je_fitting.specs.Expressions.{is_interface_sort}
-use Rattle.je_fitting.specs.Program.{itself, is_itself, FitsProgram}
+use Rattle.je_fitting.specs.Program.{itself, a_field, is_itself, is_field, FitsProgram}
 use Rattle.je_fitting.proofs.Acyclic.{acyclic}
-use Rattle.je_fitting.proofs.ClassesDecided.{itself_of}
+use Rattle.je_fitting.proofs.ClassesDecided.{itself_of, field_of}
 use Rattle.je_sound.specs.Laws.{FieldsAreInherited}
 use Rattle.je_sound.proofs.Kept.{kept-at}
 use Rattle.je_sound.proofs.Lists.{in-front, behind}
@@ -81,10 +81,23 @@ module _ (p : CoreProgram) (f : FitsProgram p) where
           ∙ behind (slot_fields p c.superclass) (own_slots c) (count_by is_instance (take at c.fields))
           ∙ kept-at is_instance c.fields at g e (ap (λ b. if b then false else true) q))
 
+  -- a class with such a field is no interface
+  no-interface : (class : ClassId) (c : CoreClass) (at slot : ℕ) (g : CoreField) → class_at p class ≡ Some c → slice_get c.fields at ≡ Some g →
+      slot_after (slice_get c.fields at) (slots_above p c + count_by is_instance (take at c.fields)) ≡ Some slot → is_interface (class_at p class) ≡ false
+  no-interface class c at slot g there e s = by (is_interface (class_at p class)) (field_of p class c at g e ((f class c there).parts (a_field at) (is_field e))).of_interface
+    where
+      place : slot_after (Some g) (slots_above p c + count_by is_instance (take at c.fields)) ≡ Some slot
+      place = ap (λ o. slot_after o (slots_above p c + count_by is_instance (take at c.fields))) (sym e) ∙ s
+
+      by : (b : Bool) → (b ≡ true → g.is_static ≡ true) → b ≡ false
+      by true h = absurd (let n = sym place ∙ ap (λ b. if b then None else Some (slots_above p c + count_by is_instance (take at c.fields))) (h refl) in cc)
+      by false h = refl
+
 pub fields_are_inherited : FieldsAreInherited
-fields_are_inherited p own class c at slot g f there plain b e s =
+fields_are_inherited p own class c at slot g f there b e s =
     let some : class.0 < length p.classes = slice_get_within p.classes class.0 c there in
     let a = acyclic p f (omega (arith, some)) in
     let in-class : slice_get c.fields at ≡ Some g = ap (λ k. slice_get (fields_in k) at) (sym there) ∙ e in
-    slot-below p f a class (ap is_interface there ∙ plain) slot g (below-to p own class b)
-    (slot-own p f a class c at slot g there in-class (ap (λ k. field_slot_in p k at) (sym there) ∙ s))
+    let place = ap (λ k. field_slot_in p k at) (sym there) ∙ s in
+    slot-below p f a class (no-interface p f class c at slot g there in-class place) slot g (below-to p own class b)
+    (slot-own p f a class c at slot g there in-class place)

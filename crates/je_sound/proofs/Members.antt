@@ -121,10 +121,10 @@ module _ (p : CoreProgram) (f : FitsProgram p) where
 
   -- ---- fields
 
-  module _ (bare : AreBare p) (class : ClassId) (c : CoreClass) (at slot : ℕ) (g : CoreField) (there : class_at p class ≡ Some c) (plain : is_interface_sort c.kind.sort ≡ false)
+  module _ (bare : AreBare p) (class : ClassId) (c : CoreClass) (at slot : ℕ) (g : CoreField) (there : class_at p class ≡ Some c)
       (field : field_at p class at ≡ Some g) (place : field_slot p class at ≡ Some slot) where
     below-has : (k : ClassId) → is_below p k class ≡ true → slice_get (slot_fields p (Some k)) slot ≡ Some g
-    below-has k b = fields_are_inherited p k class c at slot g f there plain b field place
+    below-has k b = fields_are_inherited p k class c at slot g f there b field place
 
     -- no bare class is below the class
     not-bare : (k : ClassId) → Contains bare_classes k → is_below p k class ≡ true → ⊥
@@ -163,11 +163,11 @@ module _ (p : CoreProgram) (f : FitsProgram p) where
     slot-typed (Cap device k) (a_capability q r) own t e = absurd (bare-has-not k (device-bare k r) (typed k own t e))
 
 pub fields_are_there : FieldsAreThere
-fields_are_there p world o class c at slot g f library s there plain v field place = by (slice_get world.objects o.0) refl v.has
+fields_are_there p world o class c at slot g f library s there v field place = by (slice_get world.objects o.0) refl v.has
   where
     by : (x : Option Obj) → slice_get world.objects o.0 ≡ x → type_in x ≡ Some v.own → slot_type_in p x slot ≡ Some g.ty
     by None q h = absurd cc
-    by (Some x) q h = slot-typed p f (are-bare p library) class c at slot g there plain field place x (at-place (ObjectFits p world.objects) world.objects o.0 x s.objects q).kind v.own h v.agree
+    by (Some x) q h = slot-typed p f (are-bare p library) class c at slot g there field place x (at-place (ObjectFits p world.objects) world.objects o.0 x s.objects q).kind v.own h v.agree
 
 -- ---- methods
 

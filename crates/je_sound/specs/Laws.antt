@@ -17,7 +17,7 @@ use Rattle.je_java.specs.declared.call.Receiver.{Receiver}
 use Rattle.je_java.specs.Classes.{method_for, text_place}
 use Rattle.je_java.specs.World.{World, slot_of, with_slot, with_units_at}
 use Rattle.je_fitting.specs.Types.{agrees, is_variable_type}
-use Rattle.je_fitting.specs.Expressions.{can_be_made, field_at, method_at, is_constructor, is_interface_sort}
+use Rattle.je_fitting.specs.Expressions.{can_be_made, field_at, method_at, is_constructor}
 use Rattle.je_fitting.specs.Program.{FitsProgram}
 use Rattle.library_classes.specs.Library.{LibraryStands}
 use Rattle.je_sound.specs.Calls.{CallFits, RunsFor}
@@ -131,19 +131,18 @@ CallsAreDispatched = (program : CoreProgram) (own class : ClassId) (o : CoreClas
     method_at program class at ≡ Some named → named.flags.is_static ≡ false → is_constructor program named ≡ false →
     (by : CoreMethod) × (method_for program own class at ≡ Some by) × RunsFor program by named
 
--- and the instance fields of each class above its own that is no interface, each in the slot that it has there.
+-- and the instance fields of each class above its own, each in the slot that it has there.
 abbrev pub FieldsAreInherited : Type 0
 FieldsAreInherited = (program : CoreProgram) (own class : ClassId) (c : CoreClass) (at slot : ℕ) (field : CoreField) →
-    FitsProgram program → class_at program class ≡ Some c → is_interface_sort c.kind.sort ≡ false →
-    is_below program own class ≡ true → field_at program class at ≡ Some field →
-    field_slot program class at ≡ Some slot → slice_get (slot_fields program (Some own)) slot ≡ Some field
+    FitsProgram program → class_at program class ≡ Some c → is_below program own class ≡ true →
+    field_at program class at ≡ Some field → field_slot program class at ≡ Some slot →
+    slice_get (slot_fields program (Some own)) slot ≡ Some field
 
--- What fits a class that is no interface has the instance fields of that class.
+-- What fits a class has the instance fields of that class.
 abbrev pub FieldsAreThere : Type 0
 FieldsAreThere = (program : CoreProgram) (world : World) (object : ObjId) (class : ClassId) (c : CoreClass)
     (at slot : ℕ) (field : CoreField) → FitsProgram program → LibraryStands program → Sound program world →
-    class_at program class ≡ Some c → is_interface_sort c.kind.sort ≡ false →
-    ValueFits program world.objects (class_type class) (Ref object) →
+    class_at program class ≡ Some c → ValueFits program world.objects (class_type class) (Ref object) →
     field_at program class at ≡ Some field → field_slot program class at ≡ Some slot →
     slot_type program world.objects object.0 slot ≡ Some field.ty
 

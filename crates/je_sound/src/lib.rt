@@ -69,14 +69,14 @@ pub fn statics_are_sound()
 {}
 
 /// In a program that fits, an instance has a method for each instance method that stands in its class or above it, and
-/// the instance fields of each class above its own that is no interface, each in the slot that it has there.
+/// the instance fields of each class above its own, each in the slot that it has there.
 pub fn members_are_inherited()
     ensures methods { CallsAreDispatched }
     ensures fields { FieldsAreInherited }
 {}
 
-/// So what fits a class that is no interface has the instance fields of that class, where the program has the library's
-/// classes, and an instance that fits a class has a method for each instance method of that class.
+/// So what fits a class has the instance fields of that class, where the program has the library's classes, and an
+/// instance that fits a class has a method for each instance method of that class.
 pub fn members_are_there()
     ensures fields { FieldsAreThere }
     ensures methods { CallsAreThere }

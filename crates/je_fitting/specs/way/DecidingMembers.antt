@@ -12,7 +12,7 @@ use Rattle.je_classes.specs.Dispatch.{same_signature}
 use Rattle.je_fitting.specs.Types.{is_void, is_variable_type, types_of}
 use Rattle.je_fitting.specs.Expressions.{Code, constructor, Body, is_this, method_at, is_constructor, is_interface_sort}
 use Rattle.je_fitting.specs.Statements.{no_targets}
-use Rattle.je_fitting.specs.Members.{is_guest, local_types, is_constant_form, static_body, body_of, results_agree, initializer_body}
+use Rattle.je_fitting.specs.Members.{is_guest, is_interface, local_types, is_constant_form, static_body, body_of, results_agree, initializer_body}
 use Rattle.je_fitting.specs.way.Deciding.{is_fit, are_fit, is_made_by}
 use Rattle.je_fitting.specs.way.DecidingStatements.{locals_there, is_statement_fit, are_statements_fit}
 use Rattle.je_fitting.specs.way.Quantifying.{implies, if_there, each_method}
@@ -39,7 +39,8 @@ module _ (program : CoreProgram) where
   is_constant_fit class f e = f.is_static && f.is_final && is_constant_form (form_of e) && is_fit program (static_body class []) e && same_type (ty_of e) f.ty
 
   abbrev pub is_field_fit : ClassId → CoreField → Bool
-  is_field_fit class f = is_variable_type program f.ty && if_there (is_constant_fit class f) f.constant
+  is_field_fit class f =
+      is_variable_type program f.ty && implies (is_interface (class_at program class)) f.is_static && if_there (is_constant_fit class f) f.constant
 
   -- ---- bodies
 
