@@ -33,7 +33,7 @@ pub fn tokens_or_fault()
 {}
 
 /// Bytes have one list of tokens at most, with one list of names and one of texts, and one fault at most.
-pub fn answer_unique()
+pub fn answer_is_one()
     ensures tokens { (file : ℕ) (bytes : List ℕ)
         (list list1 : List AToken) (names texts names1 texts1 : List (List ℕ)) →
         HasTokens file bytes list names texts → HasTokens file bytes list1 names1 texts1 →

@@ -30,7 +30,7 @@ pub use fault::{FaultKind, LexFault};
 pub use file_tokens::Tokens;
 pub use je_token::{Keyword, Symbol, Token, TokenKind};
 pub use laws::{
-    answer_unique, fault_inside, keyword_spelled, one_element, tokens_are_whole, tokens_inside,
+    answer_is_one, fault_inside, keyword_spelled, one_element, tokens_are_whole, tokens_inside,
     tokens_or_fault,
 };
 pub use lexer::lex;

@@ -36,13 +36,13 @@ pub fn answer_of(alloc: Global, bytes: &[u8]) -> Result<Answer, Memory>
 }
 
 /// A file is a One by one tree alone, and by one list of names.
-pub fn tree_unique()
+pub fn tree_is_one()
     ensures { (bytes : List ℕ) (names names' : List (List ℕ)) (one one' : OneTree) →
         IsOneOf bytes names one → IsOneOf bytes names' one' → (names ≡ names') × (one ≡ one') }
 {}
 
 /// A file comes to one answer: its tokens, its names, its tree, its core program and its `main` are each one, and Java's
 /// evaluation is a function.
-pub fn answer_unique()
+pub fn answer_is_one()
     ensures { (bytes : List ℕ) (a b : AnswerOf) → Answers bytes a → Answers bytes b → a ≡ b }
 {}

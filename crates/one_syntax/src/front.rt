@@ -31,6 +31,6 @@ pub fn read(alloc: Global, tokens: &[Token]) -> Result<Option<One>, Memory>
 }
 
 /// No tokens are spelled by two trees.
-pub fn tree_unique()
+pub fn tree_is_one()
     ensures { (a b : OneTree) (tokens : List Token) → Spells a tokens → Spells b tokens → a ≡ b }
 {}

@@ -34,7 +34,7 @@ pub fn tokens(alloc: Global, text: &[u8], names: &mut Names) -> Result<Option<Ve
 }
 
 /// From the same names, a text has one list of tokens, and comes to one list of names.
-pub fn tokens_unique()
+pub fn tokens_are_one()
     ensures { (names : List (List ℕ)) (text : List ℕ) (ts ts' : List OneToken)
         (after after' : List (List ℕ)) →
         Lexes names text ts after → Lexes names text ts' after' → (ts ≡ ts') × (after ≡ after') }

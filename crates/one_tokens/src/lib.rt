@@ -13,5 +13,5 @@ mod signs;
 mod token;
 mod words;
 
-pub use lex::{tokens, tokens_unique};
+pub use lex::{tokens, tokens_are_one};
 pub use token::Token;

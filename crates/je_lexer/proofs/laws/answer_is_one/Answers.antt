@@ -1,5 +1,5 @@
 use Rattle.je_lexer.proofs.OneAnswer.{one_tokens, one_fault}
-use Rattle.je_lexer.proofs.laws.answer_unique.Goals as goal
+use Rattle.je_lexer.proofs.laws.answer_is_one.Goals as goal
 
 pub returns-clause-tokens : goal.returns-clause-tokens
 returns-clause-tokens c = one_tokens
