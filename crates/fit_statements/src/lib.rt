@@ -7,4 +7,6 @@ mod statements;
 mod targets;
 
 pub use statements::{statement_fits, statements_fit};
-pub use targets::{Label, Targets, locals_there, no_targets};
+pub use targets::{
+    Label, Targets, can_jump, is_loop, label_of, locals_there, no_targets, with_label,
+};

@@ -107,8 +107,8 @@ pub fn is_loop(statement: &Stmt) -> bool
     }
 }
 
-// Whether the label of a name, the innermost one, stands before a loop; none where there is no such label.
-fn label_of(labels: &[Label], name: NameId) -> Option<bool>
+/// Whether the label of a name, the innermost one, stands before a loop; None where there is no such label.
+pub fn label_of(labels: &[Label], name: NameId) -> Option<bool>
     ensures { result ≡ the_label_of (map label_seen labels.now) name }
 {
     for label in labels {
