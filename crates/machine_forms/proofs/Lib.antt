@@ -2,3 +2,4 @@ pub mod Updates
 pub mod Making
 pub mod Handing
 pub mod Admitting
+pub mod Telling

@@ -10,6 +10,7 @@ ghost use Rattle.machine_parts.specs.Ways.{height, gives};
 
 use crate::array::{begin_element, begin_length, begin_set_array};
 use crate::call::begin_call;
+use crate::concat::begin_concat;
 use crate::update::begin_update;
 use crate::variable::{begin_before, begin_set_before, begin_set_static};
 use je_core::{BinOp, ClassId, Expr, Form, Memory, Program, Slots, Ty, UnOp, Value};
@@ -287,6 +288,6 @@ pub fn begin_expr(
             begin_call(context, heap, program, node)
         }
         Form::NewArray { .. } | Form::ArrayOf { .. } => begin_call(context, heap, program, node),
-        Form::Concat { .. } => Ok(begin_wrong()),
+        Form::Concat { left, right } => begin_concat(node.ty, left, right, &mut context.frames),
     }
 }

@@ -7,6 +7,7 @@ pub mod argument;
 pub mod array;
 pub mod call;
 pub mod capture;
+pub mod concat;
 pub mod expr;
 pub mod update;
 pub mod variable;

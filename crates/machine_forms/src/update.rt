@@ -7,12 +7,15 @@ ghost use Rattle.je_java.specs.Compound.{is_shift as the_is_shift, promoted as t
 ghost use Rattle.je_core.specs.declared.program.Program.{Program as TheProgram};
 ghost use Rattle.je_heap.specs.Contents.{Contents};
 ghost use Rattle.machine_parts.specs.declared.frame.Env.{Env as TheEnv};
-ghost use Rattle.je_java.specs.Steps.{bind, yields, wrong, get_local, put_local, read_field, write_field, read_static};
+ghost use Rattle.je_java.specs.Steps.{bind, yields, wrong, get_local, put_local, read_field, write_field, read_static, updated};
 ghost use Rattle.je_java.specs.Arrays.{read_element};
 ghost use Rattle.je_java.specs.Meaning.{object_in as the_object_in, index_in as the_index_in, object_of as the_object_of, index_of as the_index_of, fetched, stored, given as the_given, on_operand, update_by as the_update_by, update_at as the_update_at, update_object as the_update_object, begin_update as the_begin_update};
+ghost use Rattle.machine_parts.specs.Telling.{put_by as the_put_by};
 ghost use Rattle.machine_parts.specs.Ways.{valued, height, gives};
+ghost use Rattle.machine_forms.specs.way.Updating.{op_of};
 ghost use Rattle.machine_parts.specs.way.Clauses.{BeginsValue, GoesToValue, GoesAhead, Fetches, operand_of, fetched_of};
 
+use crate::concat::texts_of;
 use crate::variable::store_variable;
 use je_arith::{Outcome, try_binary, try_convert};
 use je_core::{Base, BinOp, ClassId, Expr, Form, Memory, Program, Ty, Value};
@@ -20,10 +23,11 @@ use je_heap::Heap;
 use machine_parts::array::{place_in, store_element};
 use machine_parts::class::field_slot;
 use machine_parts::field::slot;
-use machine_parts::frame::{Context, Control, Env, Fetched, Frame};
+use machine_parts::frame::{Context, Control, Env, Fetched, Frame, Sum};
 use machine_parts::make::{raise_arithmetic, raise_array_index, raise_null_pointer};
 use machine_parts::shape::extent_of;
 use machine_parts::stack::Stack;
+use machine_parts::text::is_string;
 use machine_parts::variable::{static_place, variable};
 use std::rc::Rc;
 
@@ -366,39 +370,106 @@ fn given(gives_old: bool, old: Value, value: Value) -> Value
     if gives_old { old } else { value }
 }
 
-/// Once the place and the operand have values.
-#[tactic(auto, unfolding(machine_parts::specs::way::Opened::opened), using(je_core::proofs::Views::form_of_view))]
-pub fn update_by(
+/// Puts the value of a compound assignment into its place, whose object and index have values.
+pub fn put_by(
+    context: &mut Context,
+    heap: &mut Heap,
+    program: &Program,
+    form: &Form,
+    object: Value,
+    index: Value,
+    old: Value,
+    value: Value,
+) -> Result<Control, Memory>
+    ensures goes { IfOk result (GoesToValue program.now context.old heap.old context.new heap.new
+        (λ p m. the_put_by p (form_view form.now) object index old value)) }
+    ensures short { IfOk result (λ c. height context.new + gives c ≤ height context.old + 1) }
+    ensures begun { context.new.begun ≡ context.old.begun }
+{
+    match form {
+        Form::Update {
+            place,
+            gives_old,
+            ..
+        } => {
+            let given = given(*gives_old, old, value);
+            store_at(context, heap, program, place, object, index, value, given)
+        }
+        _ => Ok(Control::Wrong),
+    }
+}
+
+// The operator of a compound assignment.
+fn op(form: &Form) -> Option<BinOp>
+    ensures { result ≡ op_of (form_view form.now) }
+{
+    match form {
+        Form::Update { op, .. } => Some(*op),
+        _ => None,
+    }
+}
+
+// The new value of a place of a type by an operator on numbers or truths.
+#[tactic(auto, unfolding(machine_parts::specs::way::Opened::opened))]
+fn put_outcome(
     context: &mut Context,
     heap: &mut Heap,
     program: &Program,
     node: &Expr,
+    op: BinOp,
     object: Value,
     index: Value,
     old: Value,
     operand: Value,
 ) -> Result<Control, Memory>
     ensures goes { IfOk result (GoesToValue program.now context.old heap.old context.new heap.new
-        (λ p m. the_update_by p node.now.ty (form_view node.now.form) object index old operand)) }
+        (λ p m. bind (updated p node.now.ty op old operand)
+        (the_put_by p (form_view node.now.form) object index old))) }
     ensures short { IfOk result (λ c. height context.new + gives c ≤ height context.old + 1) }
     ensures begun { context.new.begun ≡ context.old.begun }
 {
-    let Form::Update {
-        place,
-        op,
-        gives_old,
-        ..
-    } = &node.form
-    else {
-        return Ok(Control::Wrong);
-    };
-    match update_outcome(node.ty, *op, old, operand) {
-        Outcome::Gives(value) => {
-            let given = given(*gives_old, old, value);
-            store_at(context, heap, program, place, object, index, value, given)
-        }
+    match update_outcome(node.ty, op, old, operand) {
+        Outcome::Gives(value) => put_by(
+            context, heap, program, &node.form, object, index, old, value,
+        ),
         Outcome::ByZero => raise_arithmetic(context, heap, program),
         Outcome::Unfit => Ok(Control::Wrong),
+    }
+}
+
+/// Once the place and the operand have values.
+#[tactic(auto, unfolding(machine_parts::specs::way::Opened::opened))]
+pub fn update_by(
+    context: &mut Context,
+    heap: &mut Heap,
+    program: &Program,
+    node: Rc<Expr>,
+    object: Value,
+    index: Value,
+    old: Value,
+    operand: Value,
+) -> Result<Control, Memory>
+    ensures goes { IfOk result (GoesToValue program.now context.old heap.old context.new heap.new
+        (λ p m. the_update_by p m node.value.ty (form_view node.value.form)
+        object index old operand)) }
+    ensures short { IfOk result (λ c. height context.new + gives c ≤ height context.old + 1) }
+    ensures begun { context.new.begun ≡ context.old.begun }
+{
+    let Some(op) = op(&node.form) else {
+        return Ok(Control::Wrong);
+    };
+    if is_string(node.ty) {
+        let sum = Sum::Stored {
+            node,
+            object,
+            index,
+            old,
+        };
+        texts_of(context, heap, program, sum, old, operand)
+    } else {
+        put_outcome(
+            context, heap, program, &node, op, object, index, old, operand,
+        )
     }
 }
 
@@ -427,7 +498,7 @@ fn begin_operand(
 ) -> Result<Control, Memory>
     ensures goes { IfOk result (BeginsValue frames.old frames.new
         (λ p m. bind (m.eval (view operand.value))
-        (the_update_by p node.value.ty (form_view node.value.form) object index old))) }
+        (the_update_by p m node.value.ty (form_view node.value.form) object index old))) }
     ensures short { IfOk result (λ c. length frames.new + gives c ≤ length frames.old + 1) }
 {
     frames.push(Frame::Update {
@@ -452,7 +523,7 @@ fn with_operand(
 ) -> Result<Control, Memory>
     ensures goes { IfOk result (GoesToValue program.now context.old heap.old context.new heap.new
         (λ p m. on_operand m (operand_of (form_view node.value.form))
-        (the_update_by p node.value.ty (form_view node.value.form) object index old))) }
+        (the_update_by p m node.value.ty (form_view node.value.form) object index old))) }
     ensures short { IfOk result (λ c. height context.new + gives c ≤ height context.old + 1) }
     ensures begun { context.new.begun ≡ context.old.begun }
 {
@@ -465,7 +536,7 @@ fn with_operand(
             context,
             heap,
             program,
-            &node,
+            node,
             object,
             index,
             old,

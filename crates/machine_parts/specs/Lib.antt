@@ -1,3 +1,4 @@
+pub mod Telling
 pub mod Ways
 pub mod Outermost
 pub mod way

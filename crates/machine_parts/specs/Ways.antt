@@ -10,9 +10,11 @@ use Rattle.je_heap.specs.Contents.{Contents}
 use Rattle.je_core.specs.declared.value.Value.TheVariants.{Bool as Truth}
 use Rattle.je_java.specs.Steps.{State, Outside, Own, Done as DoneRun, Thrown, Spent, Wrong, Run, Exits, Computation, Nothing, ret, ◌>>=◌, leave, takes, is_label, landing, breaking, after_all, throw_value, out_of, with_own, put_local, binary, unary, convert, is_instance, cast, branch, read_field, write_field, read_static, write_static}
 use Rattle.je_java.specs.Arrays.{length_of, read_element, write_element}
-use Rattle.je_java.specs.Meaning.{Meanings, block, tested, further, labels_of, caught, parts_in, fallen_through, switched, update_object, update_at, update_by, set_variable, call_from, start_call, call_by, ends, nobody}
+use Rattle.je_java.specs.Texts.{concatenated}
+use Rattle.je_java.specs.Meaning.{Meanings, block, tested, further, labels_of, caught, parts_in, fallen_through, switched, update_object, update_at, update_by, set_variable, call_from, start_call, to_string, call_by, ends, nobody}
+use Rattle.machine_parts.specs.Telling.{told_by}
 use Rattle.machine_parts.specs.declared.frame.Frame.{Frame}
-use Rattle.machine_parts.specs.declared.frame.Frame.TheVariants.{ReadField, SetLocal, SetObject, SetField, ReadStatic, SetBefore, SetStatic, ReadArray, ReadElement, Length as LengthFrame, SetArray, SetIndex, SetElement, UpdateObject, UpdateIndex, Update as UpdateFrame, Operand, Converted, Cast as CastFrame, InstanceOf as InstanceFrame, Left, Right, And as AndFrame, Or as OrFrame, Choose as ChooseFrame, Test, Body, Steps, Labelled as LabelledFrame, Switch as SwitchFrame, Cases, Try as TryFrame, Finally, Finishing, Thrown as ThrownFrame, Receiver, Args, Called, Parts, Ignored, Returned}
+use Rattle.machine_parts.specs.declared.frame.Frame.TheVariants.{ReadField, SetLocal, SetObject, SetField, ReadStatic, SetBefore, SetStatic, ReadArray, ReadElement, Length as LengthFrame, SetArray, SetIndex, SetElement, UpdateObject, UpdateIndex, Update as UpdateFrame, Operand, Converted, Cast as CastFrame, InstanceOf as InstanceFrame, Left, Right, And as AndFrame, Or as OrFrame, Choose as ChooseFrame, Test, Body, Steps, Labelled as LabelledFrame, Switch as SwitchFrame, Cases, Try as TryFrame, Finally, Finishing, Thrown as ThrownFrame, Receiver, Args, Called, Parts, Ignored, Returned, ConcatLeft, ConcatRight, Telling}
 use Rattle.machine_parts.specs.declared.frame.Env.{Env}
 use Rattle.machine_parts.specs.declared.frame.End.{End}
 use Rattle.machine_parts.specs.declared.frame.End.TheVariants.{Next as NextEnd, Leave as LeaveEnd, Throw as ThrowEnd, Jump as JumpEnd}
@@ -142,7 +144,7 @@ frame_ways program m (SetIndex array value) k = giving (λ i. do
 frame_ways program m (SetElement array index) k = giving (λ v. write_element program array index v) k
 frame_ways program m (UpdateObject node) k = giving (λ o. update_object program m node.value.ty (form_view node.value.form) o) k
 frame_ways program m (UpdateIndex node object) k = giving (λ i. update_at program m node.value.ty (form_view node.value.form) object i) k
-frame_ways program m (UpdateFrame node object index old) k = giving (λ b. update_by program node.value.ty (form_view node.value.form) object index old b) k
+frame_ways program m (UpdateFrame node object index old) k = giving (λ b. update_by program m node.value.ty (form_view node.value.form) object index old b) k
 frame_ways program m (Operand op) k = giving (λ a. unary op a) k
 frame_ways program m (Converted ty) k = giving (λ a. convert ty a) k
 frame_ways program m (CastFrame ty) k = giving (λ a. cast program ty a) k
@@ -167,6 +169,11 @@ frame_ways program m (Called caller result built) k = called (own_of caller) res
 frame_ways program m (Parts node next) k = going (block m (drop next (parts_of (stmt_form_view node.value.form)))) k
 frame_ways program m Ignored k = doing (λ v. ret tt) k
 frame_ways program m Returned k = doing (λ v. leave v) k
+frame_ways program m (ConcatLeft right) k = giving (λ front. do
+  back ← m.eval (view right.value)
+  concatenated (to_string program m) front back) k
+frame_ways program m (ConcatRight left) k = giving (λ back. concatenated (to_string program m) left back) k
+frame_ways program m (Telling caller result told) k = called (own_of caller) result (λ v. valued (told_by program m told v) k) k
 
 -- the ways on that a stack of frames holds, before the ways on behind it
 abbrev pub waits : CoreProgram → Meanings → Ways → List Frame → Ways

@@ -3,3 +3,4 @@ pub mod Opened
 pub mod Clauses
 pub mod Shapes
 pub mod Slots
+pub mod Spelling

@@ -3,7 +3,7 @@
 ghost use Rattle.std.specs.Prelude.{◌≤◌, ◌+◌};
 
 use crate::stack::Stack;
-use je_base::NameId;
+use je_base::{NameId, Units};
 use je_core::{BinOp, ClassId, Expr, ObjId, Slots, Stmt, Ty, UnOp, Value};
 use je_java::Receiver;
 use std::alloc::Global;
@@ -93,6 +93,29 @@ pub enum Reply {
 pub struct Env {
     pub this: Value,
     pub locals: Slots,
+}
+
+/// What becomes of the string that a concatenation makes.
+#[derive(Drop)]
+pub enum Sum {
+    /// It is the value.
+    Given,
+    /// The compound assignment puts it into its place, of which the object, the index and the old value are there.
+    Stored {
+        node: Rc<Expr>,
+        object: Value,
+        index: Value,
+        old: Value,
+    },
+}
+
+/// What waits for what the `toString()` of an operand of a string concatenation gives.
+#[derive(Drop)]
+pub enum Told {
+    /// It is that of the left operand: the value of the right one waits.
+    Left { right: Value, sum: Sum },
+    /// It is that of the right operand: the text of the left one waits.
+    Right { front: Units, sum: Sum },
 }
 
 /// What waits for a part of a node.
@@ -285,6 +308,21 @@ pub enum Frame {
     Ignored,
     /// The value is returned.
     Returned,
+    /// The left operand of a string concatenation is being evaluated.
+    ConcatLeft {
+        right: Rc<Expr>,
+    },
+    /// The right operand of a string concatenation is being evaluated.
+    ConcatRight {
+        left: Value,
+    },
+    /// The body of an operand's `toString()` runs: what its caller had, the value where the body ends without a
+    /// return, and what waits for what it gives.
+    Telling {
+        caller: Env,
+        result: Value,
+        told: Told,
+    },
 }
 
 /// What the reading of a place comes to.

@@ -13,5 +13,6 @@ pub mod make;
 pub mod reply;
 pub mod shape;
 pub mod stack;
+pub mod text;
 pub mod value;
 pub mod variable;

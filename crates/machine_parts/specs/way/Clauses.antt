@@ -172,10 +172,21 @@ RunsAhead old new f c = (p : CoreProgram) (k : Ways) (heap : Contents) (outside 
 abbrev pub RunsAheadOf : List Frame → List Frame → Ahead → Control → Type 0
 RunsAheadOf old new f c = (p : CoreProgram) (k : Ways) (s : State) → resume p (java p) k c new s ≡ f p (java p) (waits p (java p) k old) s
 
+-- the same over a heap that may have changed
+abbrev pub RunsAheadOver : Program → Context → Contents → Context → Contents → Ahead → Control → Type 0
+RunsAheadOver program old before new after f c = (k : Ways) (outside : Outside) →
+    run_from program k c new.frames (state new after outside) ≡
+    f (program_view program) (java (program_view program)) (waits (program_view program) (java (program_view program)) k old.frames) (state old before outside)
+
 -- the same before what is behind the first body
 abbrev pub RunsOut : Reply → Context → Context → Ahead → Control → Type 0
 RunsOut reply old new f c = (p : CoreProgram) (heap : Contents) (outside : Outside) →
     resume p (java p) (outermost reply) c new.frames (state new heap outside) ≡ f p (java p) (waits p (java p) (outermost reply) old.frames) (state old heap outside)
+
+abbrev pub RunsOutOver : Program → Reply → Context → Contents → Context → Contents → Ahead → Control → Type 0
+RunsOutOver program reply old before new after f c = (outside : Outside) →
+    run_from program (outermost reply) c new.frames (state new after outside) ≡
+    f (program_view program) (java (program_view program)) (waits (program_view program) (java (program_view program)) (outermost reply) old.frames) (state old before outside)
 
 -- a number that falls with each move that goes on, where what came before gave so much
 abbrev pub FallsFrom : ℕ → Context → Context → Control → Type 0
