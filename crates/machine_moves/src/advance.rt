@@ -3,7 +3,7 @@
 ghost use Rattle.std.specs.Prelude.{◌≡◌, ◌≤◌, ◌<◌, ◌+◌, IfOk, IsErr, Some};
 ghost use Rattle.machine_parts.specs.Ways.{gives};
 ghost use Rattle.machine_parts.specs.declared.frame.Control.TheVariants.{Memory as NoMemory};
-ghost use Rattle.machine_parts.specs.way.Clauses.{GoesOut, GoesOutOver, RunsOut, GoesOn, FallsFrom, Stays};
+ghost use Rattle.machine_parts.specs.way.Clauses.{GoesOutOver, RunsOut, RunsOutOver, GoesOn, FallsFrom, Stays};
 
 use crate::give::{give, leave, next, throw};
 use crate::node::{eval, exec};
@@ -35,8 +35,14 @@ fn give_newest(
 }
 
 // The newest frame goes on after a statement, or the call comes to the default of its result.
-fn next_newest(context: &mut Context, reply: Reply) -> Result<Control, Memory>
-    ensures goes { IfOk result (RunsOut reply context.old context.new (λ p m k. k.next tt)) }
+fn next_newest(
+    context: &mut Context,
+    heap: &mut Heap,
+    program: &Program,
+    reply: Reply,
+) -> Result<Control, Memory>
+    ensures goes { IfOk result (RunsOutOver program.now reply
+        context.old heap.old context.new heap.new (λ p m k. k.next tt)) }
     ensures falls { IfOk result (FallsFrom 1 context.old context.new) }
     ensures begun { context.new.begun ≡ context.old.begun }
 {
@@ -45,14 +51,20 @@ fn next_newest(context: &mut Context, reply: Reply) -> Result<Control, Memory>
             context.env = nobody(context.alloc);
             Ok(Control::Done(reply.replied(reply.at_end())))
         }
-        Some(frame) => next(context, frame),
+        Some(frame) => next(context, heap, program, frame),
     }
 }
 
 // The newest frame is left with a value, or that is what the call comes to.
-fn leave_newest(context: &mut Context, reply: Reply, value: Value) -> Result<Control, Memory>
-    ensures goes { IfOk result (GoesOut reply context.old context.new
-        (λ p m k. k.out.leave value)) }
+fn leave_newest(
+    context: &mut Context,
+    heap: &mut Heap,
+    program: &Program,
+    reply: Reply,
+    value: Value,
+) -> Result<Control, Memory>
+    ensures goes { IfOk result (GoesOutOver program.now reply
+        context.old heap.old context.new heap.new (λ p m k. k.out.leave value)) }
     ensures falls { IfOk result (FallsFrom 1 context.old context.new) }
     ensures begun { context.new.begun ≡ context.old.begun }
 {
@@ -61,7 +73,7 @@ fn leave_newest(context: &mut Context, reply: Reply, value: Value) -> Result<Con
             context.env = nobody(context.alloc);
             Ok(Control::Done(reply.replied(value)))
         }
-        Some(frame) => leave(context, frame, value),
+        Some(frame) => leave(context, heap, program, frame, value),
     }
 }
 
@@ -127,8 +139,8 @@ pub fn advance(
         Control::Eval(node) => eval(context, heap, program, node),
         Control::Exec(node) => exec(context, program, heap, node),
         Control::Give(value) => give_newest(context, heap, program, *reply, value),
-        Control::Next => next_newest(context, *reply),
-        Control::Leave(value) => leave_newest(context, *reply, value),
+        Control::Next => next_newest(context, heap, program, *reply),
+        Control::Leave(value) => leave_newest(context, heap, program, *reply, value),
         Control::Throw(exception) => throw_newest(context, heap, program, *reply, exception),
         Control::Jump { again, label } => jump_newest(context, *reply, again, label),
         Control::Memory => Err(Memory),

@@ -1,7 +1,7 @@
 // What the newest frame does with what comes.
 
 ghost use Rattle.std.specs.Prelude.{◌≡◌, ◌≤◌, ◌+◌, IfOk, length};
-ghost use Rattle.machine_parts.specs.way.Clauses.{BeginsValue, GoesAhead, GoesAheadOver, RunsAhead};
+ghost use Rattle.machine_parts.specs.way.Clauses.{BeginsValue, GoesAheadOver, RunsAheadOver};
 ghost use Rattle.je_core.specs.View.{view};
 ghost use Rattle.je_java.specs.Steps.{bind, binary as the_binary, write_field as the_write_field};
 ghost use Rattle.machine_parts.specs.Ways.{frame_ways, height, gives};
@@ -10,6 +10,7 @@ use je_core::{BinOp, ClassId, Expr, Memory, ObjId, Program, Value};
 use je_heap::Heap;
 use machine_forms::array::{begin_index, begin_set_element, begin_set_index};
 use machine_forms::call::{call_from, start_call};
+use machine_forms::concat::{begin_concat_right, concat, tell_on};
 use machine_forms::update::{update_at, update_by, update_object};
 use machine_forms::variable::{begin_set_static, write_variable};
 use machine_parts::array::{length_of, read_element, write_element};
@@ -122,7 +123,7 @@ pub fn give(
             object,
             index,
             old,
-        } => update_by(context, heap, program, &node, object, index, old, value),
+        } => update_by(context, heap, program, node, object, index, old, value),
         Frame::Operand { op } => Ok(unary(op, value)),
         Frame::Converted { ty } => Ok(convert(ty, value)),
         Frame::Cast { ty } => cast(context, heap, program, ty, value),
@@ -157,13 +158,24 @@ pub fn give(
         Frame::Steps { node, next } => steps_from(node, next, &mut context.frames),
         Frame::Ignored => Ok(begin_nothing()),
         Frame::Returned => Ok(begin_leave(value)),
+        Frame::ConcatLeft { right } => begin_concat_right(value, right, &mut context.frames),
+        Frame::ConcatRight { left } => concat(context, heap, program, left, value),
+        Frame::Telling { caller, told, .. } => {
+            context.env = caller;
+            tell_on(context, heap, program, told, value)
+        }
     }
 }
 
 /// A statement has come to its end.
 #[tactic(auto)]
-pub fn next(context: &mut Context, frame: Frame) -> Result<Control, Memory>
-    ensures goes { IfOk result (RunsAhead context.old context.new
+pub fn next(
+    context: &mut Context,
+    heap: &mut Heap,
+    program: &Program,
+    frame: Frame,
+) -> Result<Control, Memory>
+    ensures goes { IfOk result (RunsAheadOver program.now context.old heap.old context.new heap.new
         (λ p m k. (frame_ways p m frame k).next tt)) }
     ensures short { IfOk result (λ c. height context.new + gives c ≤ height context.old + 1) }
     ensures begun { context.new.begun ≡ context.old.begun }
@@ -183,14 +195,28 @@ pub fn next(context: &mut Context, frame: Frame) -> Result<Control, Memory>
             context.env = caller;
             Ok(Control::Give(built.unwrap_or(result)))
         }
+        Frame::Telling {
+            caller,
+            result,
+            told,
+        } => {
+            context.env = caller;
+            tell_on(context, heap, program, told, result)
+        }
         _ => Ok(Control::Next),
     }
 }
 
 /// The method is left.
 #[tactic(auto)]
-pub fn leave(context: &mut Context, frame: Frame, value: Value) -> Result<Control, Memory>
-    ensures goes { IfOk result (GoesAhead context.old context.new
+pub fn leave(
+    context: &mut Context,
+    heap: &mut Heap,
+    program: &Program,
+    frame: Frame,
+    value: Value,
+) -> Result<Control, Memory>
+    ensures goes { IfOk result (GoesAheadOver program.now context.old heap.old context.new heap.new
         (λ p m k. (frame_ways p m frame k).out.leave value)) }
     ensures short { IfOk result (λ c. height context.new + gives c ≤ height context.old + 1) }
     ensures begun { context.new.begun ≡ context.old.begun }
@@ -199,6 +225,10 @@ pub fn leave(context: &mut Context, frame: Frame, value: Value) -> Result<Contro
         Frame::Called { caller, built, .. } => {
             context.env = caller;
             Ok(Control::Give(built.unwrap_or(value)))
+        }
+        Frame::Telling { caller, told, .. } => {
+            context.env = caller;
+            tell_on(context, heap, program, told, value)
         }
         Frame::Try { node } => finish(&node.form, End::Leave(value), &mut context.frames),
         Frame::Finally { node } => finish(&node.form, End::Leave(value), &mut context.frames),
@@ -223,6 +253,10 @@ pub fn throw(
 {
     match frame {
         Frame::Called { caller, .. } => {
+            context.env = caller;
+            Ok(Control::Throw(exception))
+        }
+        Frame::Telling { caller, .. } => {
             context.env = caller;
             Ok(Control::Throw(exception))
         }

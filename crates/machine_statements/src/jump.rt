@@ -105,7 +105,7 @@ pub fn jump(
         Frame::Finally { node } => {
             finish(&node.form, End::Jump { again, label }, &mut context.frames)
         }
-        Frame::Called { .. } => Ok(Control::Wrong),
+        Frame::Called { .. } | Frame::Telling { .. } => Ok(Control::Wrong),
         _ => Ok(Control::Jump { again, label }),
     }
 }
