@@ -16,7 +16,7 @@ use std::alloc::Global;
 use std::process::Abort;
 
 // A call of the first class's first method.
-fn call_with(alloc: Global, arg: i32) -> Result<Call, Memory> {
+pub fn call_with(alloc: Global, arg: i32) -> Result<Call, Memory> {
     let mut args = Slots::new(alloc);
     args.push(Value::Int(arg))?;
     Ok(Call {
@@ -28,7 +28,7 @@ fn call_with(alloc: Global, arg: i32) -> Result<Call, Memory> {
 }
 
 // How a call ends in a heap, and the units that it took.
-fn run_in(
+pub fn run_in(
     alloc: Global,
     heap: &mut Heap,
     program: &Program,
@@ -68,7 +68,7 @@ fn thrown(object: u64) -> Option<Next> {
     Some(Next::Thrown(ObjId(object)))
 }
 
-const SPENT: Option<Next> = Some(Next::Spent);
+pub const SPENT: Option<Next> = Some(Next::Spent);
 
 // A call of a program with an int and so many units, how it ends, and how many units it takes.
 type Row = (Sample, i32, u64, Option<Next>, u64);

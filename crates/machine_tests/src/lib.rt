@@ -6,6 +6,10 @@ mod calls;
 #[cfg(test)]
 mod hierarchy;
 #[cfg(test)]
+mod joining;
+#[cfg(test)]
 mod nodes;
 #[cfg(test)]
 mod samples;
+#[cfg(test)]
+mod texts;
