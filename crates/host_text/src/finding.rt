@@ -1,0 +1,13 @@
+// Faults of a program, of any phase.
+
+use crate::rules::Rule;
+use je_base::Span;
+
+/// A fault of a program.
+#[derive(Clone, Copy, PartialEq, Eq, Debug)]
+pub struct Finding {
+    /// What is broken.
+    pub rule: Rule,
+    /// Where.
+    pub span: Span,
+}
