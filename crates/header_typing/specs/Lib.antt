@@ -1,0 +1,4 @@
+pub mod WrittenTypes
+pub mod Supers
+pub mod Statics
+pub mod Throws
