@@ -1,0 +1,3 @@
+pub mod Headers
+pub mod View
+pub mod way
