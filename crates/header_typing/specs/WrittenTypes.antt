@@ -1,11 +1,11 @@
 -- Types as headers and signatures write them: each type argument is below its bound (JLS 4.5), and no type has more than 255
 -- dimensions (JVMS 4.3.2).
-use Rattle.std.specs.Prelude.{ℕ, suc, ◌+◌, Bool, true, List, Option, Some, None, nat_le}
+use Rattle.std.specs.Prelude.{ℕ, suc, ◌+◌, Bool, true, List, Option, Some, None, slice_get, nat_le}
 use Rattle.je_base.specs.declared.span.Span.{Span}
 use Rattle.je_ast.specs.declared.name.Identifier.{Identifier}
 use Rattle.je_ast.specs.Types.{TypeName, TypeNames, primitive, class_type, no_types, more_types, FormalParameter}
 use Rattle.je_scopes.specs.SourceTypes.{SourceType, SourceTypes, of_class}
-use Rattle.source_types.specs.Heads.{ClassHead, bound_of}
+use Rattle.source_types.specs.Heads.{ClassHead, head_at, bounds_in}
 use Rattle.source_types.specs.Substitution.{argument_at, substituted}
 use Rattle.source_types.specs.Subtypes.{is_subtype}
 use Rattle.je_typing.specs.declared.fault.TypeRule.TheVariants.{BadArray, BadBound}
@@ -24,16 +24,19 @@ is_in_limit n = nat_le n 255
 
 -- ---- type arguments
 
--- below the bound of its place, in which the arguments are put in for the class's variables
-abbrev pub is_in_bound : List ClassHead → ℕ → SourceTypes → ℕ → Option SourceType → Bool
-is_in_bound heads c args at None = true
-is_in_bound heads c args at (Some t) = is_subtype heads t (substituted c args (bound_of heads c at))
+-- one and the bound of its place, in which the arguments are put in for the class's variables
+abbrev pub is_in_bound : List ClassHead → ℕ → SourceTypes → Option SourceType → Option SourceType → Bool
+is_in_bound heads c args (Some bound) (Some t) = is_subtype heads t (substituted c args bound)
+is_in_bound heads c args _ _ = true
+
+abbrev pub bound_if : List ClassHead → ℕ → ℕ → Option SourceType
+bound_if heads c at = slice_get (bounds_in (head_at heads c)) at
 
 -- the arguments of a class, those that are written from a place on
 abbrev pub bounded_from : List ClassHead → ℕ → SourceTypes → ℕ → TypeNames → Judged (Unit {0})
 bounded_from heads c args at no_types = gives tt
 bounded_from heads c args at (more_types t ts) = do
-  check BadBound (span_of t) (is_in_bound heads c args at (argument_at args at))
+  check BadBound (span_of t) (is_in_bound heads c args (bound_if heads c at) (argument_at args at))
   bounded_from heads c args (suc at) ts
 
 -- the arguments that are written of a type
