@@ -67,9 +67,9 @@ fn put_uses_in(uses: &mut Vec<Use>, form: &Form) -> Result<(), Memory>
     }
 }
 
-// The library fields that a constant expression names, behind others.
+/// The library fields that a constant expression names, behind others.
 #[tactic(auto, using(je_core::proofs::Views::view_is))]
-fn put_uses(uses: &mut Vec<Use>, node: &Expr) -> Result<(), Memory>
+pub fn put_uses(uses: &mut Vec<Use>, node: &Expr) -> Result<(), Memory>
     ensures { OnOk result (uses.new.items ≡ uses.old.items ++ the_uses_of (view node.now)) }
 {
     put_uses_in(uses, &node.form)

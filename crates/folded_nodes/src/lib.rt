@@ -12,7 +12,9 @@ mod texts;
 mod unary;
 
 pub use binary::binary_node;
-pub use constants::{constant_text, constant_value, mark_of, value_in};
+pub use constants::{
+    constant_text, constant_value, joined_uses, mark_of, put_uses, uses_of, value_in,
+};
 pub use convert::{converted, converted_if};
 pub use logic::{logical_node, reference_node};
 pub use texts::concat_node;
