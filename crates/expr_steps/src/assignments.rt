@@ -6,14 +6,13 @@ ghost use Rattle.je_core.specs.Core.{form_of};
 ghost use Rattle.je_typing.specs.Answers.{IsFault};
 ghost use Rattle.je_typing.specs.Assignments.{is_place as the_is_place, stepped as the_stepped};
 ghost use Rattle.je_typing.specs.Judged.{gives};
-ghost use Rattle.expr_steps.specs.Seen.{seen};
+ghost use Rattle.typed_nodes.specs.Seen.{seen};
 
-use crate::typed::TypedExpr;
-use crate::types::is_numeric;
 use je_base::Span;
 use je_core::{BinOp, Expr, Form, Mark, make_update};
 use je_typing::{Refusal, TypeRule, check};
 use std::alloc::Global;
+use typed_nodes::{TypedExpr, is_numeric};
 
 fn is_place_form(form: &Form) -> bool
     ensures { result ≡ the_is_place (form_view form.now) }

@@ -8,9 +8,8 @@ ghost use Rattle.je_typing.specs.Answers.{IsFault};
 ghost use Rattle.je_typing.specs.Judged.{gives};
 ghost use Rattle.je_typing.specs.Literals.{char_value as the_char_value, int_value as the_int_value, literal_of, long_value as the_long_value, negative_int as the_negative_int, negative_long as the_negative_long, number_literal as the_number_literal};
 ghost use Rattle.je_typing.specs.Typed.{is_primitive_base, typed_as, typed_text};
-ghost use Rattle.expr_steps.specs.Seen.{seen};
+ghost use Rattle.typed_nodes.specs.Seen.{seen};
 
-use crate::typed::{TypedExpr, null_ty, of_base, string_ty};
 use fit_parts::string;
 use folded_nodes::mark_of;
 use je_arith::try_unary;
@@ -20,6 +19,7 @@ use je_core::{Base, Mark, UnOp, Value, make_const, make_text};
 use je_typing::{Refusal, TypeRule, need};
 use std::alloc::Global;
 use text_members::copied;
+use typed_nodes::{TypedExpr, null_ty, of_base, string_ty};
 
 fn int_value(number: i128) -> Option<Value>
     ensures { result ≡ the_int_value number }

@@ -5,7 +5,7 @@ ghost use Rattle.je_core.specs.View.{view};
 ghost use Rattle.je_typing.specs.Operators.{of_base as the_of_base};
 ghost use Rattle.je_typing.specs.Typed.{is_primitive_base, null_source_type, primitive_type, string_type};
 ghost use Rattle.name_types.specs.View.{shown};
-ghost use Rattle.expr_steps.specs.Seen.{seen};
+ghost use Rattle.typed_nodes.specs.Seen.{seen};
 
 use fit_parts::string;
 use je_core::{Base, Expr};
@@ -18,7 +18,8 @@ pub struct TypedExpr {
     pub ty: SrcTy,
 }
 
-fn primitive_ty(base: Base) -> SrcTy
+/// A primitive type.
+pub fn primitive_ty(base: Base) -> SrcTy
     requires { is_primitive_base base ≡ true }
     ensures { shown result ≡ primitive_type base }
 {

@@ -2,7 +2,7 @@
 use Rattle.je_core.specs.View.{view}
 use Rattle.je_typing.specs.Typed.{TypedNode}
 use Rattle.name_types.specs.View.{shown}
-use Rattle.expr_steps.specs.declared.typed.TypedExpr.{TypedExpr}
+use Rattle.typed_nodes.specs.declared.typed.TypedExpr.{TypedExpr}
 
 abbrev pub seen : TypedExpr → TypedNode
 seen t = record { node = view t.node; type = shown t.ty }

@@ -5,9 +5,9 @@ ghost use Rattle.je_fitting.specs.Operators.{Sort, sort_of};
 ghost use Rattle.je_fitting.specs.Types.{is_number_base as the_is_number_base};
 ghost use Rattle.je_typing.specs.Operators.{alike as the_alike, apart as the_apart, boolean_operand as the_boolean_operand, operand_base as the_operand_base, operands as the_operands, result_base as the_result_base, truths_or_numbers as the_truths_or_numbers};
 ghost use Rattle.je_typing.specs.Promotion.{promoted as the_promoted, promoted_base as the_promoted_base, promoted_together as the_promoted_together, wider as the_wider, wider_if as the_wider_if};
-ghost use Rattle.je_typing.specs.Typed.{is_boolean as the_is_boolean, is_numeric as the_is_numeric, is_void as the_is_void};
+ghost use Rattle.je_typing.specs.Typed.{is_boolean as the_is_boolean, is_numeric as the_is_numeric, is_void as the_is_void, primitive as the_primitive};
 ghost use Rattle.name_types.specs.View.{base_shown, plain_shown, shown};
-ghost use Rattle.expr_steps.specs.way.Plain.{plain_of as the_plain_of, promoted_if as the_promoted_if, is_bool_if as the_is_bool_if, is_number_if as the_is_number_if, is_void_if as the_is_void_if};
+ghost use Rattle.typed_nodes.specs.way.Plain.{plain_of as the_plain_of, promoted_if as the_promoted_if, is_bool_if as the_is_bool_if, is_number_if as the_is_number_if, is_void_if as the_is_void_if, primitive_if as the_primitive_if};
 
 use je_core::{Base, BinOp, UnOp};
 use je_typing::Operands;
@@ -35,7 +35,7 @@ fn plain_in(base: &SrcBase) -> Option<Base>
 
 // The base of a type that is no class, no type variable and no array.
 #[tactic(auto, using(name_types::proofs::Views::type_is, crate::proofs::Plain::array_is_none))]
-fn plain_of(ty: &SrcTy) -> Option<Base>
+pub(crate) fn plain_of(ty: &SrcTy) -> Option<Base>
     ensures { result ≡ the_plain_of (shown ty.now) }
 {
     if ty.dims != 0 {
@@ -44,14 +44,21 @@ fn plain_of(ty: &SrcTy) -> Option<Base>
     plain_in(&ty.base)
 }
 
-fn promoted_if(base: Option<Base>) -> Option<Base>
-    ensures { result ≡ the_promoted_if base }
+/// The type to which a primitive type is promoted (JLS 5.6.1); none of what is no number.
+pub fn promoted_base(base: Base) -> Option<Base>
+    ensures { result ≡ the_promoted_base base }
 {
-    match base? {
+    match base {
         Base::Byte | Base::Short | Base::Char | Base::Int => Some(Base::Int),
         Base::Long => Some(Base::Long),
         _ => None,
     }
+}
+
+fn promoted_if(base: Option<Base>) -> Option<Base>
+    ensures { result ≡ the_promoted_if base }
+{
+    promoted_base(base?)
 }
 
 /// The type to which a number is promoted (JLS 5.6.1); none of what is no number.
@@ -78,7 +85,8 @@ pub fn promoted_together(left: &SrcTy, right: &SrcTy) -> Option<Base>
     wider_if(promoted(left), promoted(right))
 }
 
-fn wider_if(left: Option<Base>, right: Option<Base>) -> Option<Base>
+/// The wider of two promoted types, where both are there.
+pub fn wider_if(left: Option<Base>, right: Option<Base>) -> Option<Base>
     ensures { result ≡ the_wider_if left right }
 {
     let left = left?;
@@ -135,6 +143,24 @@ pub fn is_void(ty: &SrcTy) -> bool
     ensures { result ≡ the_is_void (shown ty.now) }
 {
     is_void_if(plain_of(ty))
+}
+
+fn primitive_if(base: Option<Base>) -> Option<Base>
+    ensures { result ≡ the_primitive_if base }
+{
+    let base = base?;
+    match base {
+        Base::Null | Base::Void | Base::Class(_) => None,
+        _ => Some(base),
+    }
+}
+
+/// The base of a primitive type; none of what is no primitive type (JLS 4.2).
+#[tactic(auto, using(crate::proofs::Plain::primitive_by_base))]
+pub fn primitive(ty: &SrcTy) -> Option<Base>
+    ensures { result ≡ the_primitive (shown ty.now) }
+{
+    primitive_if(plain_of(ty))
 }
 
 fn boolean_operand(ty: &SrcTy) -> Option<Base>

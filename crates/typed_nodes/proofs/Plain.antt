@@ -1,12 +1,12 @@
 -- Types in memory of which the base is all: primitive types, `void` and the type of `null`.
-use Rattle.std.proofs.Common.{◌≡◌, ◌≢◌, ℕ, zero, suc, Bool, true, false, Option, Some, None, refl, ap, ◌∙◌, sym, true≢false}
+use Rattle.std.proofs.Common.{◌≡◌, ◌≢◌, ℕ, zero, suc, true, None, refl, ap, ◌∙◌, sym, true≢false}
 use Rattle.std.specs.Prelude.{codes}
 use Rattle.je_core.specs.declared.types.Base.{Base}
 use Rattle.je_core.specs.declared.types.Base.TheVariants as base
 use Rattle.je_classes.specs.Hierarchy.{library_class}
 use Rattle.je_scopes.specs.SourceTypes.{SourceType, plain, of_class, of_variable}
-use Rattle.je_typing.specs.Promotion.{promoted, promoted_base}
-use Rattle.je_typing.specs.Typed.{primitive_type, is_primitive_base, is_boolean, is_numeric, is_void, null_source_type, string_type}
+use Rattle.je_typing.specs.Promotion.{promoted}
+use Rattle.je_typing.specs.Typed.{primitive, primitive_type, is_primitive_base, is_boolean, is_numeric, is_void, null_source_type, string_type}
 use Rattle.name_types.specs.declared.types.SrcBase.{SrcBase, out-SrcBase}
 use Rattle.name_types.specs.declared.types.SrcBase.TheOpen as node
 use Rattle.name_types.specs.declared.types.SrcBase.TheVariants.{Plain}
@@ -14,7 +14,8 @@ use Rattle.name_types.specs.declared.types.SrcTy.{SrcTy}
 use Rattle.name_types.specs.View.{base_layer, base_shown, plain_shown, shown}
 use Rattle.name_types.proofs.Bases.{plain_base}
 use Rattle.name_types.proofs.Views.{base_is}
-use Rattle.expr_steps.specs.way.Plain.{plain_of, promoted_if, is_bool_if, is_number_if, is_void_if}
+use Rattle.source_types.specs.Subtypes.{is_reference}
+use Rattle.typed_nodes.specs.way.Plain.{plain_of, promoted_if, is_bool_if, is_number_if, is_void_if, is_reference_if, primitive_if}
 
 layer-none : (f : node.SrcBase-F SrcBase SrcTy) (n : ℕ) → plain_of (base_layer shown f (suc n)) ≡ None
 layer-none (node.Plain base.Bool) n = refl
@@ -81,3 +82,15 @@ void_by_base (plain b zero) = refl
 void_by_base (plain b (suc n)) = refl
 void_by_base (of_class c ts n) = refl
 void_by_base (of_variable c i n) = refl
+
+pub primitive_by_base : (t : SourceType) → primitive_if (plain_of t) ≡ primitive t
+primitive_by_base (plain b zero) = refl
+primitive_by_base (plain b (suc n)) = refl
+primitive_by_base (of_class c ts n) = refl
+primitive_by_base (of_variable c i n) = refl
+
+pub reference_by_base : (t : SourceType) → is_reference_if (plain_of t) ≡ is_reference t
+reference_by_base (plain b zero) = refl
+reference_by_base (plain b (suc n)) = refl
+reference_by_base (of_class c ts n) = refl
+reference_by_base (of_variable c i n) = refl

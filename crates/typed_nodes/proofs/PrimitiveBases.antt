@@ -13,25 +13,22 @@ use Rattle.je_typing.specs.declared.operands.Operands.{Operands}
 use Rattle.je_typing.specs.Judged.{Judged, gives, faulty, need}
 use Rattle.je_typing.specs.Operators.{alike, apart, operand_base, operands, result_base}
 use Rattle.je_typing.specs.Promotion.{promoted, promoted_base, promoted_together, wider_if}
-use Rattle.je_typing.specs.Typed.{is_primitive_base, is_boolean}
+use Rattle.je_typing.specs.Typed.{is_primitive_base, is_boolean, primitive}
+use Rattle.typed_nodes.specs.way.Kept.{kept_option}
 
 abbrev kept-judged : {A : Type 0} → (A → Bool) → Judged A → Bool
 kept-judged f (gives a) = f a
 kept-judged f (faulty fault) = true
 
-abbrev kept-option : {A : Type 0} → (A → Bool) → Option A → Bool
-kept-option f None = true
-kept-option f (Some a) = f a
-
-judged-is : {A : Type 0} (f : A → Bool) (rule : TypeRule) (span : Span) (o : Option A) → kept-judged f (need rule span o) ≡ kept-option f o
+judged-is : {A : Type 0} (f : A → Bool) (rule : TypeRule) (span : Span) (o : Option A) → kept-judged f (need rule span o) ≡ kept_option f o
 unfolding need
 judged-is f rule span None = refl
 judged-is f rule span (Some a) = refl
 
-needed : {A : Type 0} (f : A → Bool) (rule : TypeRule) (span : Span) (o : Option A) (a : A) → kept-option f o ≡ true → need rule span o ≡ gives a → f a ≡ true
+needed : {A : Type 0} (f : A → Bool) (rule : TypeRule) (span : Span) (o : Option A) (a : A) → kept_option f o ≡ true → need rule span o ≡ gives a → f a ≡ true
 needed f rule span o a h e = sym (ap (kept-judged f) e) ∙ judged-is f rule span o ∙ h
 
-base-kept : (b : Base) → kept-option is_primitive_base (promoted_base b) ≡ true
+pub base-kept : (b : Base) → kept_option is_primitive_base (promoted_base b) ≡ true
 base-kept base.Bool = refl
 base-kept base.Byte = refl
 base-kept base.Short = refl
@@ -42,7 +39,7 @@ base-kept base.Null = refl
 base-kept base.Void = refl
 base-kept (base.Class c) = refl
 
-promoted-kept : (t : SourceType) → kept-option is_primitive_base (promoted t) ≡ true
+promoted-kept : (t : SourceType) → kept_option is_primitive_base (promoted t) ≡ true
 promoted-kept (plain b zero) = base-kept b
 promoted-kept (plain b (suc n)) = refl
 promoted-kept (of_class c ts n) = refl
@@ -51,11 +48,11 @@ promoted-kept (of_variable c i n) = refl
 pub promoted_is_primitive : (rule : TypeRule) (span : Span) (t : SourceType) (b : Base) → need rule span (promoted t) ≡ gives b → is_primitive_base b ≡ true
 promoted_is_primitive rule span t b e = needed is_primitive_base rule span (promoted t) b (promoted-kept t) e
 
-truth-kept : (b : Bool) → kept-option is_primitive_base (if b then Some base.Bool else None) ≡ true
+truth-kept : (b : Bool) → kept_option is_primitive_base (if b then Some base.Bool else None) ≡ true
 truth-kept true = refl
 truth-kept false = refl
 
-operand-kept : (o : UnOp) (t : SourceType) → kept-option is_primitive_base (operand_base o t) ≡ true
+operand-kept : (o : UnOp) (t : SourceType) → kept_option is_primitive_base (operand_base o t) ≡ true
 operand-kept Minus t = promoted-kept t
 operand-kept Tilde t = promoted-kept t
 operand-kept Not t = truth-kept (is_boolean t)
@@ -65,7 +62,7 @@ operand_is_primitive rule span o t b e = needed is_primitive_base rule span (ope
 
 -- ---- of two operands
 
-wider-kept : (x y : Option Base) → kept-option is_primitive_base x ≡ true → kept-option is_primitive_base y ≡ true → kept-option is_primitive_base (wider_if x y) ≡ true
+pub wider-kept : (x y : Option Base) → kept_option is_primitive_base x ≡ true → kept_option is_primitive_base y ≡ true → kept_option is_primitive_base (wider_if x y) ≡ true
 wider-kept None y h k = refl
 wider-kept (Some a) None h k = refl
 wider-kept (Some base.Long) (Some b) h k = refl
@@ -78,7 +75,7 @@ wider-kept (Some base.Null) (Some b) h k = k
 wider-kept (Some base.Void) (Some b) h k = k
 wider-kept (Some (base.Class c)) (Some b) h k = k
 
-together-kept : (t u : SourceType) → kept-option is_primitive_base (promoted_together t u) ≡ true
+together-kept : (t u : SourceType) → kept_option is_primitive_base (promoted_together t u) ≡ true
 together-kept t u = wider-kept (promoted t) (promoted u) (promoted-kept t) (promoted-kept u)
 
 abbrev has-result : Sort → Operands → Bool
@@ -91,20 +88,20 @@ result-kept comparison b h = refl
 result-kept equality b h = refl
 result-kept bitwise b h = h
 
-alike-kept : (s : Sort) (o : Option Base) → kept-option is_primitive_base o ≡ true → kept-option (has-result s) (alike o) ≡ true
+alike-kept : (s : Sort) (o : Option Base) → kept_option is_primitive_base o ≡ true → kept_option (has-result s) (alike o) ≡ true
 alike-kept s None h = refl
 alike-kept s (Some b) h = result-kept s b h
 
-apart-kept : (s : Sort) (x y : Option Base) → kept-option is_primitive_base x ≡ true → kept-option (has-result s) (apart x y) ≡ true
+apart-kept : (s : Sort) (x y : Option Base) → kept_option is_primitive_base x ≡ true → kept_option (has-result s) (apart x y) ≡ true
 apart-kept s None y h = refl
 apart-kept s (Some a) None h = refl
 apart-kept s (Some a) (Some b) h = result-kept s a h
 
-either-kept : (s : Sort) (b : Bool) (o : Option Base) → kept-option is_primitive_base o ≡ true → kept-option (has-result s) (if b then alike (Some base.Bool) else alike o) ≡ true
+either-kept : (s : Sort) (b : Bool) (o : Option Base) → kept_option is_primitive_base o ≡ true → kept_option (has-result s) (if b then alike (Some base.Bool) else alike o) ≡ true
 either-kept s true o h = alike-kept s (Some base.Bool) refl
 either-kept s false o h = alike-kept s o h
 
-operands-kept : (s : Sort) (t u : SourceType) → kept-option (has-result s) (operands s t u) ≡ true
+operands-kept : (s : Sort) (t u : SourceType) → kept_option (has-result s) (operands s t u) ≡ true
 operands-kept arithmetic t u = alike-kept arithmetic (promoted_together t u) (together-kept t u)
 operands-kept shift t u = apart-kept shift (promoted t) (promoted u) (promoted-kept t)
 operands-kept comparison t u = alike-kept comparison (promoted_together t u) (together-kept t u)
@@ -113,3 +110,25 @@ operands-kept bitwise t u = either-kept bitwise (is_boolean t && is_boolean u) (
 
 pub result_is_primitive : (rule : TypeRule) (span : Span) (s : Sort) (t u : SourceType) (p : Operands) → need rule span (operands s t u) ≡ gives p → is_primitive_base (result_base s p.left) ≡ true
 result_is_primitive rule span s t u p e = needed (has-result s) rule span (operands s t u) p (operands-kept s t u) e
+
+-- ---- the base of a primitive type
+
+own-kept : (b : Base) → kept_option is_primitive_base (if is_primitive_base b then Some b else None) ≡ true
+own-kept base.Bool = refl
+own-kept base.Byte = refl
+own-kept base.Short = refl
+own-kept base.Char = refl
+own-kept base.Int = refl
+own-kept base.Long = refl
+own-kept base.Null = refl
+own-kept base.Void = refl
+own-kept (base.Class c) = refl
+
+pub primitive-kept : (t : SourceType) → kept_option is_primitive_base (primitive t) ≡ true
+primitive-kept (plain b zero) = own-kept b
+primitive-kept (plain b (suc n)) = refl
+primitive-kept (of_class c ts n) = refl
+primitive-kept (of_variable c i n) = refl
+
+pub primitive_is_primitive : (t : SourceType) (b : Base) → primitive t ≡ Some b → is_primitive_base b ≡ true
+primitive_is_primitive t b e = ap (kept_option is_primitive_base) (sym e) ∙ primitive-kept t

@@ -1,7 +1,7 @@
 use Rattle.std.proofs.Common.{◌∙◌}
 use Rattle.name_types.proofs.Views.{rolled_is}
-use Rattle.expr_steps.proofs.Plain.{shown_null}
-use Rattle.expr_steps.proofs.typed.null_ty.Goals as goal
+use Rattle.typed_nodes.proofs.Plain.{shown_null}
+use Rattle.typed_nodes.proofs.typed.null_ty.Goals as goal
 
 pub returns : goal.returns
 returns c = rolled_is _ ∙ shown_null

@@ -1,0 +1,3 @@
+pub mod Plain
+pub mod PrimitiveBases
+pub mod ElementTypes
