@@ -6,4 +6,6 @@ mod assigning;
 #[cfg(test)]
 mod reaching;
 #[cfg(test)]
+mod throwing;
+#[cfg(test)]
 mod trees;
