@@ -1,0 +1,5 @@
+pub mod Files
+pub mod Names
+pub mod Units
+pub mod Faults
+pub mod way

@@ -1,0 +1,13 @@
+// Laws of reading files.
+
+ghost use Rattle.std.specs.Prelude.{◌≡◌, ℕ, List};
+ghost use Rattle.je_ast.specs.Trees.{CompilationUnit};
+ghost use Rattle.source_units.specs.Units.{AreUnitsOf};
+
+/// The same files, after the same names, have one list of units at most, and one list of names.
+pub fn units_are_one()
+    ensures { (files before : List (List ℕ)) (units units1 : List CompilationUnit)
+        (names names1 : List (List ℕ)) →
+        AreUnitsOf files before units names → AreUnitsOf files before units1 names1 →
+        (units ≡ units1) × (names ≡ names1) }
+{}
