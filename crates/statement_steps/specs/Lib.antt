@@ -1,0 +1,5 @@
+pub mod Conditions
+pub mod Jumps
+pub mod Returns
+pub mod Switches
+pub mod Thrown
