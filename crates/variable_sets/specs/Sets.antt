@@ -18,6 +18,10 @@ both a b = record { has = λ v. a.has v && b.has v }
 unfoldable pub either : Set → Set → Set
 either a b = record { has = λ v. a.has v || b.has v }
 
+-- of the variables in x those in a, and of all others those in b
+unfoldable pub pick : Set → Set → Set → Set
+pick x a b = record { has = λ v. if x.has v then a.has v else b.has v }
+
 -- the set and this variable
 unfoldable pub adding : ℕ → Set → Set
 adding x a = record { has = λ v. if nat_eq v x then true else a.has v }

@@ -1,8 +1,9 @@
 // Sets of variables, as words of bits.
 
-ghost use Rattle.std.specs.Prelude.{◌≡◌, ℕ, ◌<◌, ◌^◌, length, OnOk, IfOk, nat_eq, bit_and, bit_or, slice_index_or, if◌then◌else◌};
-ghost use Rattle.variable_sets.specs.Sets.{everything as the_everything, nothing as the_nothing, both, either, adding, removing};
+ghost use Rattle.std.specs.Prelude.{◌≡◌, ℕ, ◌<◌, ◌^◌, length, max, OnOk, IfOk, nat_eq, bit_and, bit_or, slice_index_or, if◌then◌else◌};
+ghost use Rattle.variable_sets.specs.Sets.{everything as the_everything, nothing as the_nothing, both, either, adding, removing, pick as the_pick};
 ghost use Rattle.variable_sets.specs.SetView.{set_view};
+ghost use Rattle.variable_sets.specs.way.Words.{picked_word as the_picked_word};
 
 use je_core::Memory;
 use std::alloc::Global;
@@ -116,6 +117,27 @@ impl Variables {
             rest: self.rest & other.rest,
         })
     }
+
+    /// Of this set's variables those that are in `yes`, and of all others those that are in `no`.
+    #[tactic(auto, unfolding(crate::specs::SetView::set_view), using(crate::proofs::Picks::words_picked))]
+    pub fn pick(&self, yes: &Variables, no: &Variables) -> Result<Variables, Memory>
+        ensures { IfOk result (λ v. set_view v ≡
+            the_pick (set_view self.now) (set_view yes.now) (set_view no.now)) }
+    {
+        let words = words_picked(self, yes, no)?;
+        Ok(Variables {
+            alloc: self.alloc,
+            words,
+            rest: picked_word(self.rest, yes.rest, no.rest),
+        })
+    }
+}
+
+// Of three words the bits of `yes` where those of `which` are 1, and those of `no` elsewhere.
+fn picked_word(which: u64, yes: u64, no: u64) -> u64
+    ensures { result ≡ the_picked_word which yes no }
+{
+    no ^ ((yes ^ no) & which)
 }
 
 // The word at a place, and `rest` behind the last one.
@@ -191,4 +213,27 @@ fn words_of_either(
         words.push(word_at(one, one_rest, k) | word_at(other, other_rest, k))?;
     }
     Ok(words)
+}
+
+fn words_picked(which: &Variables, yes: &Variables, no: &Variables) -> Result<Vec<u64>, Memory>
+    ensures { IfOk result (λ v. (k : ℕ) →
+        slice_index_or v.items k (the_picked_word which.now.rest yes.now.rest no.now.rest)
+        ≡ the_picked_word (slice_index_or which.now.words.items k which.now.rest)
+        (slice_index_or yes.now.words.items k yes.now.rest) (slice_index_or no.now.words.items k no.now.rest)) }
+{
+    let mut words = Vec::new(which.alloc);
+    let end = longest(which.words.len(), longest(yes.words.len(), no.words.len()));
+    for k in 0..end {
+        let of_which = word_at(&which.words, which.rest, k);
+        let of_yes = word_at(&yes.words, yes.rest, k);
+        let of_no = word_at(&no.words, no.rest, k);
+        words.push(picked_word(of_which, of_yes, of_no))?;
+    }
+    Ok(words)
+}
+
+fn longest(one: usize, other: usize) -> usize
+    ensures { result ≡ max one other }
+{
+    if one < other { other } else { one }
 }
