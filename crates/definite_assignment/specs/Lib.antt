@@ -1,6 +1,1 @@
-pub mod Places
-pub mod Expressions
-pub mod Statements
 pub mod Programs
-pub mod View
-pub mod way

@@ -1,4 +1,5 @@
--- The variables that bodies, classes and whole programs read or leave so before they are definitely assigned (JLS 16, 16.8, 16.9).
+-- The faults of definite assignment and unassignment of bodies, classes and whole programs (JLS 16, 16.8, 16.9). What is said of
+-- 'assigned' is said of 'not unassigned' too.
 use Rattle.std.specs.Prelude.{ℕ, zero, suc, Bool, true, false, not, ◌&&◌, Option, Some, None, is_some, List, [], ◌∷◌, length, if◌then◌else◌}
 use Rattle.je_core.specs.declared.types.ClassId.{ClassId}
 use Rattle.je_core.specs.Core.{Core, CoreForm, CoreStmt, CoreStmtForm, CoreStmts, MaybeCore, CoreField, CoreInitializer, CoreMethod, CoreClass, CoreProgram, node, no_core, a_core, no_stmts, more_stmts, form_of, stmt_form_of}
@@ -8,10 +9,15 @@ use Rattle.flow_base.specs.declared.faults.FaultKind.TheVariants as kind
 use Rattle.flow_base.specs.declared.jumps.Way.TheVariants.{Returns}
 use Rattle.flow_base.specs.FaultSets.{Faults, none, ◌∪◌, fault_where}
 use Rattle.variable_sets.specs.Numbers.{local_number, field_number}
-use Rattle.variable_sets.specs.Sets.{Set, everything, nothing, both, adding}
-use Rattle.definite_assignment.specs.Places.{is_home, variable_of}
-use Rattle.definite_assignment.specs.Expressions.{assigning}
-use Rattle.definite_assignment.specs.Statements.{Ends, statement_ends, statement_faults}
+use Rattle.variable_sets.specs.Sets.{Set, nothing, both, removing}
+use Rattle.je_core.specs.declared.program.Local.{Local}
+use Rattle.assignment_rules.specs.declared.rules.Rule.{Rule}
+use Rattle.assignment_rules.specs.declared.rules.Rule.TheVariants.{Assigned, Unassigned}
+use Rattle.assignment_rules.specs.Rules.{Follow, marking, none_marked, all_marked}
+use Rattle.assigned_expressions.specs.Places.{is_home, variable_of}
+use Rattle.assigned_expressions.specs.Expressions.{assigning}
+use Rattle.assignment_rules.specs.Ends.{Ends}
+use Rattle.assigned_statements.specs.Statements.{statement_ends, statement_faults}
 
 abbrev pub is_of_kind : Bool → Bool → Bool
 is_of_kind true is_static = is_static
@@ -24,9 +30,10 @@ abbrev pub may_be_blank : Bool → CoreField → Bool
 may_be_blank static f = f.is_final && is_of_kind static f.is_static && not (is_some f.constant) && not (is_hidden_access f.access)
 
 -- all other fields of the class count as assigned
-abbrev pub other_fields : Bool → List CoreField → ℕ → Set → Set
-other_fields static [] at a = a
-other_fields static (f ∷ fs) at a = other_fields static fs (suc at) (if may_be_blank static f then a else adding (field_number at) a)
+abbrev pub other_fields : Rule → Bool → List CoreField → ℕ → Set → Set
+other_fields rule static [] at a = a
+other_fields rule static (f ∷ fs) at a =
+    other_fields rule static fs (suc at) (if may_be_blank static f then a else marking rule (field_number at) a)
 
 abbrev pub assigned_in : ClassId → CoreForm → Option ℕ
 assigned_in class (core.Assign place value) = variable_of (Some class) place
@@ -37,13 +44,13 @@ abbrev pub assigned_by : ClassId → CoreStmtForm → Option ℕ
 assigned_by class (core.Do e) = assigned_in class (form_of e)
 assigned_by class _ = None
 
-abbrev pub with_initialized : ClassId → List CoreInitializer → Set → Set
-with_initialized class [] a = a
-with_initialized class (i ∷ is) a = with_initialized class is (assigning (assigned_by class (stmt_form_of i.body)) a)
+abbrev pub with_initialized : Rule → ClassId → List CoreInitializer → Set → Set
+with_initialized rule class [] a = a
+with_initialized rule class (i ∷ is) a = with_initialized rule class is (assigning rule (assigned_by class (stmt_form_of i.body)) a)
 
 -- what counts as assigned before the first initializer: all fields that aren't blank
-abbrev pub at_start : ClassId → Bool → CoreClass → Set
-at_start class static c = with_initialized class c.initializers (other_fields static c.fields 0 nothing)
+abbrev pub at_start : Rule → ClassId → Bool → CoreClass → Set
+at_start rule class static c = with_initialized rule class c.initializers (other_fields rule static c.fields 0 (none_marked rule))
 
 -- a fault for each field that isn't assigned at the end: its name
 abbrev pub left_faults : Bool → Set → ℕ → List CoreField → Faults
@@ -51,29 +58,58 @@ left_faults static a at [] = none
 left_faults static a at (f ∷ fs) =
     fault_where (may_be_blank static f && not (a.has (field_number at))) kind.NotAssigned f.span ∪ left_faults static a (suc at) fs
 
+-- A field needn't be unassigned at the end.
+abbrev pub end_faults : Rule → Bool → Set → List CoreField → Faults
+end_faults Assigned static a fs = left_faults static a 0 fs
+end_faults Unassigned static a fs = none
+
+-- ---- what is followed in a body
+
+-- the set but for the locals that aren't final
+abbrev pub final_locals : List Local → ℕ → Set → Set
+final_locals [] at a = a
+final_locals (l ∷ ls) at a = final_locals ls (suc at) (if l.is_final then a else removing (local_number at) a)
+
+-- A blank final field is one that is unassigned when the initializers begin: `start`.
+abbrev pub once_assigned : Rule → List Local → Set → Set
+once_assigned Assigned locals start = nothing
+once_assigned Unassigned locals start = final_locals locals 0 start
+
+unfoldable pub following : Rule → Option ClassId → List Local → Set → Follow
+following rule home locals start = record { rule = rule; home = home; finals = once_assigned rule locals start }
+
+-- of a body, which has no label before it
+unfoldable pub ends_of : Follow → Set → CoreStmt → Ends
+ends_of f b body = statement_ends f None b body
+
+unfoldable pub faults_of : Follow → Set → CoreStmt → Faults
+faults_of f b body = statement_faults f None b body
+
 -- ---- initializers, in the order of the text (16.8, 16.9)
 
-abbrev pub initializer_past : ClassId → Bool → Set → CoreInitializer → Set
-initializer_past class static b i = if is_of_kind static i.is_static then (statement_ends (Some class) None b i.body).after else b
+abbrev pub initializer_past : Rule → ClassId → Bool → Set → Set → CoreInitializer → Set
+initializer_past rule class static start b i =
+    if is_of_kind static i.is_static then (ends_of (following rule (Some class) i.locals start) b i.body).after else b
 
-abbrev pub initializer_faults : ClassId → Bool → Set → CoreInitializer → Faults
-initializer_faults class static b i = if is_of_kind static i.is_static then statement_faults (Some class) None b i.body else none
+abbrev pub initializer_faults : Rule → ClassId → Bool → Set → Set → CoreInitializer → Faults
+initializer_faults rule class static start b i =
+    if is_of_kind static i.is_static then faults_of (following rule (Some class) i.locals start) b i.body else none
 
-abbrev pub initializers_past : ClassId → Bool → Set → List CoreInitializer → Set
-initializers_past class static b [] = b
-initializers_past class static b (i ∷ is) = initializers_past class static (initializer_past class static b i) is
+abbrev pub initializers_past : Rule → ClassId → Bool → Set → Set → List CoreInitializer → Set
+initializers_past rule class static start b [] = b
+initializers_past rule class static start b (i ∷ is) = initializers_past rule class static start (initializer_past rule class static start b i) is
 
-abbrev pub initializers_faults : ClassId → Bool → Set → List CoreInitializer → Faults
-initializers_faults class static b [] = none
-initializers_faults class static b (i ∷ is) =
-    initializer_faults class static b i ∪ initializers_faults class static (initializer_past class static b i) is
+abbrev pub initializers_faults : Rule → ClassId → Bool → Set → Set → List CoreInitializer → Faults
+initializers_faults rule class static start b [] = none
+initializers_faults rule class static start b (i ∷ is) =
+    initializer_faults rule class static start b i ∪ initializers_faults rule class static start (initializer_past rule class static start b i) is
 
 -- ---- methods and constructors
 
 -- parameters are assigned from the start
-abbrev pub with_parameters : ℕ → Set → Set
-with_parameters zero a = a
-with_parameters (suc n) a = adding (local_number n) (with_parameters n a)
+abbrev pub with_parameters : Rule → ℕ → Set → Set
+with_parameters rule zero a = a
+with_parameters rule (suc n) a = marking rule (local_number n) (with_parameters rule n a)
 
 abbrev pub is_this_form : CoreForm → Bool
 is_this_form core.This = true
@@ -111,47 +147,56 @@ calls_own p class (core.Block locals parts) = first_is_own p class parts
 calls_own p class _ = false
 
 -- Behind `this(..)` all is assigned (16.9), behind `super(..)` what the initializers leave so.
-abbrev pub constructor_start : CoreProgram → ClassId → Set → CoreStmt → Set
-constructor_start p class b body = if calls_own p class (stmt_form_of body) then everything else b
+abbrev pub constructor_start : Rule → CoreProgram → ClassId → Set → CoreStmt → Set
+constructor_start rule p class b body = if calls_own p class (stmt_form_of body) then all_marked rule else b
 
-abbrev pub constructor_faults : CoreProgram → ClassId → CoreClass → Set → ℕ → CoreStmt → Faults
-constructor_faults p class c b params body =
-    let start = with_parameters params (constructor_start p class b body) in
-    let ends = statement_ends (Some class) None start body in
-    statement_faults (Some class) None start body ∪ left_faults false (both ends.after (ends.exits.by Returns)) 0 c.fields
+abbrev pub constructor_faults : Rule → CoreProgram → ClassId → CoreClass → Set → Set → CoreMethod → CoreStmt → Faults
+constructor_faults rule p class c start b m body =
+    let f = following rule (Some class) m.locals start in
+    let before = with_parameters rule (length m.params) (constructor_start rule p class b body) in
+    let ends = ends_of f before body in
+    faults_of f before body ∪ end_faults rule false (both ends.after (ends.exits.by Returns)) c.fields
 
-abbrev pub body_faults : CoreProgram → ClassId → CoreClass → Set → Bool → ℕ → CoreStmt → Faults
-body_faults p class c b true params body = constructor_faults p class c b params body
-body_faults p class c b false params body = statement_faults None None (with_parameters params nothing) body
+abbrev pub plain_faults : Rule → CoreMethod → CoreStmt → Faults
+plain_faults rule m body =
+    faults_of (following rule None m.locals (none_marked rule)) (with_parameters rule (length m.params) (none_marked rule)) body
 
-abbrev pub method_faults : CoreProgram → ClassId → CoreClass → Set → CoreMethod → Faults
-method_faults p class c b m = of_body m.body where
+abbrev pub body_faults : Rule → CoreProgram → ClassId → CoreClass → Set → Set → Bool → CoreMethod → CoreStmt → Faults
+body_faults rule p class c start b true m body = constructor_faults rule p class c start b m body
+body_faults rule p class c start b false m body = plain_faults rule m body
+
+abbrev pub method_faults : Rule → CoreProgram → ClassId → CoreClass → Set → Set → CoreMethod → Faults
+method_faults rule p class c start b m = of_body m.body where
   of_body : Option CoreStmt → Faults
   of_body None = none
-  of_body (Some body) = body_faults p class c b (names_constructors p m.name) (length m.params) body
+  of_body (Some body) = body_faults rule p class c start b (names_constructors p m.name) m body
 
-abbrev pub methods_faults : CoreProgram → ClassId → CoreClass → Set → List CoreMethod → Faults
-methods_faults p class c b [] = none
-methods_faults p class c b (m ∷ ms) = method_faults p class c b m ∪ methods_faults p class c b ms
+abbrev pub methods_faults : Rule → CoreProgram → ClassId → CoreClass → Set → Set → List CoreMethod → Faults
+methods_faults rule p class c start b [] = none
+methods_faults rule p class c start b (m ∷ ms) = method_faults rule p class c start b m ∪ methods_faults rule p class c start b ms
 
 -- ---- classes
 
-abbrev pub static_faults : ClassId → CoreClass → Faults
-static_faults class c =
-    let start = at_start class true c in
-    initializers_faults class true start c.initializers ∪ left_faults true (initializers_past class true start c.initializers) 0 c.fields
+abbrev pub static_faults : Rule → ClassId → CoreClass → Faults
+static_faults rule class c =
+    let start = at_start rule class true c in
+    initializers_faults rule class true start start c.initializers
+    ∪ end_faults rule true (initializers_past rule class true start start c.initializers) c.fields
 
-abbrev pub instance_faults : CoreProgram → ClassId → CoreClass → Faults
-instance_faults p class c =
-    let start = at_start class false c in
-    initializers_faults class false start c.initializers ∪ methods_faults p class c (initializers_past class false start c.initializers) c.methods
+abbrev pub instance_faults : Rule → CoreProgram → ClassId → CoreClass → Faults
+instance_faults rule p class c =
+    let start = at_start rule class false c in
+    initializers_faults rule class false start start c.initializers
+    ∪ methods_faults rule p class c start (initializers_past rule class false start start c.initializers) c.methods
 
-abbrev pub class_faults : CoreProgram → ClassId → CoreClass → Faults
-class_faults p class c = static_faults class c ∪ instance_faults p class c
+abbrev pub class_faults : Rule → CoreProgram → ClassId → CoreClass → Faults
+class_faults rule p class c = static_faults rule class c ∪ instance_faults rule p class c
 
-abbrev pub classes_faults : CoreProgram → ℕ → List CoreClass → Faults
-classes_faults p at [] = none
-classes_faults p at (c ∷ cs) = class_faults p (record { 0 = at }) c ∪ classes_faults p (suc at) cs
+abbrev pub classes_faults : Rule → CoreProgram → ℕ → List CoreClass → Faults
+classes_faults rule p at [] = none
+classes_faults rule p at (c ∷ cs) = class_faults rule p (record { 0 = at }) c ∪ classes_faults rule p (suc at) cs
 
-unfoldable pub program_faults : CoreProgram → Faults
-program_faults p = classes_faults p 0 p.classes
+-- By the first rule each variable that is read, or left so at the end, before it is definitely assigned; by the second each final
+-- one that is assigned where it isn't definitely unassigned.
+unfoldable pub program_faults : Rule → CoreProgram → Faults
+program_faults rule p = classes_faults rule p 0 p.classes

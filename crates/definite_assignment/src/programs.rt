@@ -1,44 +1,60 @@
-// The variables of a whole program that are read, or left so, before they are definitely assigned.
+// The faults of definite assignment and unassignment of a whole program.
 
-ghost use Rattle.std.specs.Prelude.{◌≡◌, ◌<◌, ◌^◌, length, IfOk, OnOk, map};
+ghost use Rattle.std.specs.Prelude.{◌≡◌, ◌<◌, ◌^◌, length, IfOk, OnOk, map, if◌then◌else◌};
 ghost use Rattle.je_core.specs.Core.{form_of, stmt_form_of, core_stmts, maybe_core};
 ghost use Rattle.je_core.specs.View.{view, view_if, form_view, stmt_view, stmt_form_view, stmt_views, field_view, initializer_view, method_view, class_view, program_view};
 ghost use Rattle.flow_base.specs.way.Kept.{first_of};
+ghost use Rattle.je_classes.specs.Members.{names_constructors as names_constructors_of};
+ghost use Rattle.variable_sets.specs.Numbers.{field_number as the_field_number};
 ghost use Rattle.variable_sets.specs.SetView.{set_view};
-ghost use Rattle.definite_assignment.specs.Programs.{is_of_kind as the_is_of_kind, may_be_blank as the_may_be_blank, other_fields as the_other_fields, assigned_in as the_assigned_in, assigned_by as the_assigned_by, with_initialized as the_with_initialized, at_start as the_at_start, left_faults, initializer_past, initializer_faults, initializers_past, initializers_faults, with_parameters as the_with_parameters, is_this as the_is_this, is_this_form as the_is_this_form, is_this_there as the_is_this_there, builds_own as the_builds_own, is_own_call as the_is_own_call, is_own as the_is_own, first_is_own as the_first_is_own, calls_own as the_calls_own, constructor_start as the_constructor_start, constructor_faults, body_faults, method_faults, methods_faults, static_faults, instance_faults, class_faults, classes_faults, program_faults};
+ghost use Rattle.assignment_rules.specs.Rules.{marking};
+ghost use Rattle.definite_assignment.specs.Programs.{is_of_kind as the_is_of_kind, may_be_blank as the_may_be_blank, other_fields as the_other_fields, assigned_in as the_assigned_in, assigned_by as the_assigned_by, with_initialized as the_with_initialized, at_start as the_at_start, left_faults, end_faults, final_locals as the_final_locals, once_assigned as the_once_assigned, following as the_following, ends_of, faults_of, initializer_past, initializer_faults, initializers_past, initializers_faults, with_parameters as the_with_parameters, is_this as the_is_this, is_this_form as the_is_this_form, is_this_there as the_is_this_there, builds_own as the_builds_own, is_own_call as the_is_own_call, is_own as the_is_own, first_is_own as the_first_is_own, calls_own as the_calls_own, constructor_start as the_constructor_start, constructor_faults, plain_faults, body_faults, method_faults, methods_faults, static_faults, instance_faults, class_faults, classes_faults, program_faults};
+ghost use Rattle.assigned_expressions.specs.Expressions.{assigning};
+ghost use Rattle.assignment_rules.specs.View.{ends_view, follow_view};
 
-use crate::places::{is_home, variable_of};
-use crate::statements::walk_statement;
+use assigned_expressions::{is_home, variable_of};
+use assigned_statements::walk_statement;
+use assignment_rules::{Ends, Follow, Rule, all_marked, marked, none_marked};
 use class_members::{is_hidden, method_at, names_constructors};
 use flow_base::{FaultKind, FirstFault, Way};
-use je_classes::class_count;
 use je_core::{
-    Class, ClassId, Expr, Field, Form, Initializer, Memory, Method, Program, Stmt, StmtForm,
+    Class, ClassId, Expr, Field, Form, Initializer, Local, Memory, Method, Program, Stmt, StmtForm,
 };
 use std::alloc::Global;
 use std::rc::Rc;
 use variable_sets::{Variables, field_number, local_number};
 
-/// Adds the faults of a program to those found: each variable that is read before it is definitely assigned, each blank final
-/// field that a constructor leaves so, and each static one that its class's initializers leave so.
+/// Adds the faults of a program by a rule to those found. By `Assigned` each variable that is read before it is definitely
+/// assigned, each blank final field that a constructor leaves so, and each static one that its class's initializers leave so.
+/// By `Unassigned` each blank final variable that is assigned where it isn't definitely unassigned.
 #[tactic(auto, unfolding(crate::specs::Programs::program_faults))]
-pub fn judge_program(alloc: Global, program: &Program, found: &mut FirstFault) -> Result<(), Memory>
+pub fn judge_program(
+    alloc: Global,
+    rule: Rule,
+    program: &Program,
+    found: &mut FirstFault,
+) -> Result<(), Memory>
     requires { length (program_view program.now).classes < 2 ^ 31 }
     ensures { OnOk result (found.new ≡
-        first_of found.old (program_faults (program_view program.now))) }
+        first_of found.old (program_faults rule (program_view program.now))) }
 {
-    judge_classes(alloc, program, found)
+    judge_classes(alloc, rule, program, found)
 }
 
 #[tactic(auto, unfolding(je_core::specs::View::program_view))]
-fn judge_classes(alloc: Global, program: &Program, found: &mut FirstFault) -> Result<(), Memory>
+fn judge_classes(
+    alloc: Global,
+    rule: Rule,
+    program: &Program,
+    found: &mut FirstFault,
+) -> Result<(), Memory>
     requires { length (program_view program.now).classes < 2 ^ 31 }
     ensures { OnOk result (found.new ≡ first_of found.old
-        (classes_faults (program_view program.now) 0 (program_view program.now).classes)) }
+        (classes_faults rule (program_view program.now) 0 (program_view program.now).classes)) }
 {
     let mut at: u32 = 0;
     for class in &program.classes {
-        judge_class(alloc, program, ClassId(at), class, found)?;
+        judge_class(alloc, rule, program, ClassId(at), class, found)?;
         at += 1;
     }
     Ok(())
@@ -46,153 +62,285 @@ fn judge_classes(alloc: Global, program: &Program, found: &mut FirstFault) -> Re
 
 fn judge_class(
     alloc: Global,
+    rule: Rule,
     program: &Program,
     id: ClassId,
     class: &Class,
     found: &mut FirstFault,
 ) -> Result<(), Memory>
     ensures { OnOk result (found.new ≡ first_of found.old
-        (class_faults (program_view program.now) id (class_view class.now))) }
+        (class_faults rule (program_view program.now) id (class_view class.now))) }
 {
-    judge_static(alloc, id, class, found)?;
-    judge_instance(alloc, program, id, class, found)
+    judge_static(alloc, rule, id, class, found)?;
+    judge_instance(alloc, rule, program, id, class, found)
 }
 
 // Adds the faults of the static initializers of a class.
 fn judge_static(
     alloc: Global,
+    rule: Rule,
     id: ClassId,
     class: &Class,
     found: &mut FirstFault,
 ) -> Result<(), Memory>
     ensures { OnOk result (found.new ≡
-        first_of found.old (static_faults id (class_view class.now))) }
+        first_of found.old (static_faults rule id (class_view class.now))) }
 {
-    let start = at_start(alloc, id, true, class)?;
-    let past = walk_initializers(alloc, id, true, &class.initializers, start, found)?;
-    add_left(true, &past, &class.fields, found);
+    let start = at_start(alloc, rule, id, true, class)?;
+    let before = start.copy()?;
+    let past = walk_initializers(
+        alloc,
+        rule,
+        id,
+        true,
+        &start,
+        &class.initializers,
+        before,
+        found,
+    )?;
+    add_left(rule, true, &past, &class.fields, found);
     Ok(())
 }
 
 // Adds the faults of the instance initializers of a class, its constructors and its methods.
 fn judge_instance(
     alloc: Global,
+    rule: Rule,
     program: &Program,
     id: ClassId,
     class: &Class,
     found: &mut FirstFault,
 ) -> Result<(), Memory>
     ensures { OnOk result (found.new ≡ first_of found.old
-        (instance_faults (program_view program.now) id (class_view class.now))) }
+        (instance_faults rule (program_view program.now) id (class_view class.now))) }
 {
-    let start = at_start(alloc, id, false, class)?;
-    let past = walk_initializers(alloc, id, false, &class.initializers, start, found)?;
-    judge_methods(alloc, program, id, class, &past, &class.methods, found)
+    let start = at_start(alloc, rule, id, false, class)?;
+    let before = start.copy()?;
+    let past = walk_initializers(
+        alloc,
+        rule,
+        id,
+        false,
+        &start,
+        &class.initializers,
+        before,
+        found,
+    )?;
+    let around = Around { id, start, past };
+    judge_methods(alloc, rule, program, class, &around, &class.methods, found)
+}
+
+// A class round a method: its number, the set when its instance initializers begin, and that when they end.
+#[derive(Drop)]
+struct Around {
+    id: ClassId,
+    start: Variables,
+    past: Variables,
 }
 
 fn judge_methods(
     alloc: Global,
+    rule: Rule,
     program: &Program,
-    id: ClassId,
     class: &Class,
-    past: &Variables,
+    around: &Around,
     methods: &[Method],
     found: &mut FirstFault,
 ) -> Result<(), Memory>
     ensures { OnOk result (found.new ≡ first_of found.old
-        (methods_faults (program_view program.now) id (class_view class.now) (set_view past.now)
-        (map method_view methods.now))) }
+        (methods_faults rule (program_view program.now) around.now.id (class_view class.now)
+        (set_view around.now.start) (set_view around.now.past) (map method_view methods.now))) }
 {
     for method in methods {
-        judge_method(alloc, program, id, class, past, method, found)?;
+        judge_method(alloc, rule, program, class, around, method, found)?;
     }
     Ok(())
 }
 
 fn judge_method(
     alloc: Global,
+    rule: Rule,
     program: &Program,
-    id: ClassId,
     class: &Class,
-    past: &Variables,
+    around: &Around,
     method: &Method,
     found: &mut FirstFault,
 ) -> Result<(), Memory>
     ensures { OnOk result (found.new ≡ first_of found.old
-        (method_faults (program_view program.now) id (class_view class.now) (set_view past.now)
-        (method_view method.now))) }
+        (method_faults rule (program_view program.now) around.now.id (class_view class.now)
+        (set_view around.now.start) (set_view around.now.past) (method_view method.now))) }
 {
     match &method.body {
         None => Ok(()),
-        Some(body) => {
-            let builds = names_constructors(program, method.name);
-            let count = method.params.len();
-            judge_body(alloc, program, id, class, past, builds, count, body, found)
-        }
+        Some(body) => judge_body(alloc, rule, program, class, around, method, body, found),
     }
 }
 
-// Adds the faults of a body with so many parameters, of a constructor or of another method.
+// Adds the faults of a body of a method, which may be a constructor.
 fn judge_body(
     alloc: Global,
+    rule: Rule,
     program: &Program,
-    id: ClassId,
     class: &Class,
-    past: &Variables,
-    builds: bool,
-    count: usize,
+    around: &Around,
+    method: &Method,
     body: &Stmt,
     found: &mut FirstFault,
 ) -> Result<(), Memory>
-    requires { count < 2 ^ 63 }
     ensures { OnOk result (found.new ≡ first_of found.old
-        (body_faults (program_view program.now) id (class_view class.now) (set_view past.now)
-        builds count (stmt_view body.now))) }
+        (body_faults rule (program_view program.now) around.now.id (class_view class.now)
+        (set_view around.now.start) (set_view around.now.past)
+        (names_constructors_of (program_view program.now) method.now.name)
+        (method_view method.now) (stmt_view body.now))) }
 {
-    if builds {
-        return judge_constructor(alloc, program, id, class, past, count, body, found);
+    if names_constructors(program, method.name) {
+        return judge_constructor(alloc, rule, program, class, around, method, body, found);
     }
-    let start = with_parameters(count, Variables::nothing(alloc))?;
-    let _ = walk_statement(alloc, None, body, None, start, found)?;
+    judge_plain(alloc, rule, method, body, found)
+}
+
+// Adds the faults of a body of a method that is no constructor.
+fn judge_plain(
+    alloc: Global,
+    rule: Rule,
+    method: &Method,
+    body: &Stmt,
+    found: &mut FirstFault,
+) -> Result<(), Memory>
+    ensures { OnOk result (found.new ≡ first_of found.old
+        (plain_faults rule (method_view method.now) (stmt_view body.now))) }
+{
+    let start = none_marked(alloc, rule);
+    let before = with_parameters(rule, method.params.len(), none_marked(alloc, rule))?;
+    let _ = walk_body(
+        alloc,
+        rule,
+        None,
+        &method.locals,
+        &start,
+        body,
+        before,
+        found,
+    )?;
     Ok(())
 }
 
 fn judge_constructor(
     alloc: Global,
+    rule: Rule,
     program: &Program,
-    id: ClassId,
     class: &Class,
-    past: &Variables,
-    count: usize,
+    around: &Around,
+    method: &Method,
     body: &Stmt,
     found: &mut FirstFault,
 ) -> Result<(), Memory>
-    requires { count < 2 ^ 63 }
     ensures { OnOk result (found.new ≡ first_of found.old
-        (constructor_faults (program_view program.now) id (class_view class.now)
-        (set_view past.now) count (stmt_view body.now))) }
+        (constructor_faults rule (program_view program.now) around.now.id (class_view class.now)
+        (set_view around.now.start) (set_view around.now.past)
+        (method_view method.now) (stmt_view body.now))) }
 {
-    let start = constructor_start(alloc, program, id, past, body)?;
-    let start = with_parameters(count, start)?;
-    let ends = walk_statement(alloc, Some(id), body, None, start, found)?;
+    let id = Some(around.id);
+    let before = constructor_start(alloc, rule, program, around.id, &around.past, body)?;
+    let before = with_parameters(rule, method.params.len(), before)?;
+    let ends = walk_body(
+        alloc,
+        rule,
+        id,
+        &method.locals,
+        &around.start,
+        body,
+        before,
+        found,
+    )?;
     let left = ends.after.meet(&ends.exits.by(Way::Returns)?)?;
-    add_left(false, &left, &class.fields, found);
+    add_left(rule, false, &left, &class.fields, found);
     Ok(())
+}
+
+// How a body of these locals ends, by the set when the initializers of its class begin. Adds its faults.
+fn walk_body(
+    alloc: Global,
+    rule: Rule,
+    home: Option<ClassId>,
+    locals: &[Local],
+    start: &Variables,
+    body: &Stmt,
+    before: Variables,
+    found: &mut FirstFault,
+) -> Result<Ends, Memory>
+    ensures ends { IfOk result (λ e. ends_view e ≡
+        ends_of (the_following rule home locals.now (set_view start.now)) (set_view before)
+        (stmt_view body.now)) }
+    ensures faults { OnOk result (found.new ≡ first_of found.old
+        (faults_of (the_following rule home locals.now (set_view start.now)) (set_view before)
+        (stmt_view body.now))) }
+{
+    let follow = following(alloc, rule, home, locals, start)?;
+    walk_statement(alloc, &follow, body, None, before, found)
+}
+
+// What is followed in a body of these locals, by the set when the initializers of its class begin.
+#[tactic(auto, unfolding(crate::specs::Programs::following))]
+fn following(
+    alloc: Global,
+    rule: Rule,
+    home: Option<ClassId>,
+    locals: &[Local],
+    start: &Variables,
+) -> Result<Follow, Memory>
+    ensures { IfOk result (λ f. follow_view f ≡
+        the_following rule home locals.now (set_view start.now)) }
+{
+    let finals = once_assigned(alloc, rule, locals, start)?;
+    Ok(Follow { rule, home, finals })
+}
+
+// The variables that may be assigned only once, where that is followed.
+fn once_assigned(
+    alloc: Global,
+    rule: Rule,
+    locals: &[Local],
+    start: &Variables,
+) -> Result<Variables, Memory>
+    ensures { IfOk result (λ v. set_view v ≡
+        the_once_assigned rule locals.now (set_view start.now)) }
+{
+    match rule {
+        Rule::Assigned => Ok(Variables::nothing(alloc)),
+        Rule::Unassigned => final_locals(locals, start.copy()?),
+    }
+}
+
+// The set but for the locals that aren't final.
+fn final_locals(locals: &[Local], set: Variables) -> Result<Variables, Memory>
+    ensures { IfOk result (λ v. set_view v ≡ the_final_locals locals.now 0 (set_view set)) }
+{
+    let mut rest = set;
+    let mut at: usize = 0;
+    for local in locals {
+        if !local.is_final {
+            rest.remove(local_number(at))?;
+        }
+        at += 1;
+    }
+    Ok(rest)
 }
 
 // What is assigned before the body of a constructor.
 fn constructor_start(
     alloc: Global,
+    rule: Rule,
     program: &Program,
     id: ClassId,
     past: &Variables,
     body: &Stmt,
 ) -> Result<Variables, Memory>
-    ensures { IfOk result (λ v. set_view v ≡ the_constructor_start
+    ensures { IfOk result (λ v. set_view v ≡ the_constructor_start rule
         (program_view program.now) id (set_view past.now) (stmt_view body.now)) }
 {
     if calls_own(program, id, body) {
-        return Ok(Variables::everything(alloc));
+        return Ok(all_marked(alloc, rule));
     }
     past.copy()
 }
@@ -200,7 +348,8 @@ fn constructor_start(
 // Whether a constructor's body begins with a call of another constructor of its class.
 #[tactic(auto, using(je_core::proofs::Views::stmt_form_of_view))]
 fn calls_own(program: &Program, id: ClassId, body: &Stmt) -> bool
-    ensures { result ≡ the_calls_own (program_view program.now) id (stmt_form_of (stmt_view body.now)) }
+    ensures { result ≡ the_calls_own (program_view program.now) id
+        (stmt_form_of (stmt_view body.now)) }
 {
     begins_with_own(program, id, &body.form)
 }
@@ -301,28 +450,54 @@ fn is_this_form(form: &Form) -> bool
 }
 
 // What is assigned before the first initializer, static or not.
-fn at_start(alloc: Global, id: ClassId, is_static: bool, class: &Class) -> Result<Variables, Memory>
+fn at_start(
+    alloc: Global,
+    rule: Rule,
+    id: ClassId,
+    is_static: bool,
+    class: &Class,
+) -> Result<Variables, Memory>
     ensures { IfOk result (λ v. set_view v ≡
-        the_at_start id is_static (class_view class.now)) }
+        the_at_start rule id is_static (class_view class.now)) }
 {
-    let others = other_fields(is_static, &class.fields, Variables::nothing(alloc))?;
-    with_initialized(id, &class.initializers, others)
+    let others = other_fields(rule, is_static, &class.fields, none_marked(alloc, rule))?;
+    with_initialized(rule, id, &class.initializers, others)
 }
 
 // The set with all fields that can't be blank.
-fn other_fields(is_static: bool, fields: &[Field], set: Variables) -> Result<Variables, Memory>
+fn other_fields(
+    rule: Rule,
+    is_static: bool,
+    fields: &[Field],
+    set: Variables,
+) -> Result<Variables, Memory>
     ensures { IfOk result (λ v. set_view v ≡
-        the_other_fields is_static (map field_view fields.now) 0 (set_view set)) }
+        the_other_fields rule is_static (map field_view fields.now) 0 (set_view set)) }
 {
     let mut all = set;
     let mut at: usize = 0;
     for field in fields {
-        if !may_be_blank(is_static, field) {
-            all.insert(field_number(at))?;
-        }
+        all = with_other(rule, is_static, field, at, all)?;
         at += 1;
     }
     Ok(all)
+}
+
+fn with_other(
+    rule: Rule,
+    is_static: bool,
+    field: &Field,
+    at: usize,
+    set: Variables,
+) -> Result<Variables, Memory>
+    requires { at < 2 ^ 63 }
+    ensures { IfOk result (λ v. set_view v ≡ (if the_may_be_blank is_static (field_view field.now)
+        then set_view set else marking rule (the_field_number at) (set_view set))) }
+{
+    if may_be_blank(is_static, field) {
+        return Ok(set);
+    }
+    marked(rule, field_number(at), set)
 }
 
 // Whether a field is blank unless it has an initializer.
@@ -343,20 +518,28 @@ fn is_of_kind(is_static: bool, member: bool) -> bool
 
 // The set with all fields that have initializers.
 fn with_initialized(
+    rule: Rule,
     id: ClassId,
     initializers: &[Initializer],
     set: Variables,
 ) -> Result<Variables, Memory>
     ensures { IfOk result (λ v. set_view v ≡
-        the_with_initialized id (map initializer_view initializers.now) (set_view set)) }
+        the_with_initialized rule id (map initializer_view initializers.now) (set_view set)) }
 {
     let mut all = set;
     for initializer in initializers {
-        if let Some(variable) = initialized(id, &initializer.body) {
-            all.insert(variable)?;
-        }
+        all = with_assigned(rule, initialized(id, &initializer.body), all)?;
     }
     Ok(all)
+}
+
+fn with_assigned(rule: Rule, variable: Option<usize>, set: Variables) -> Result<Variables, Memory>
+    ensures { IfOk result (λ v. set_view v ≡ assigning rule variable (set_view set)) }
+{
+    match variable {
+        None => Ok(set),
+        Some(variable) => marked(rule, variable, set),
+    }
 }
 
 // The field whose initializer it is.
@@ -393,7 +576,17 @@ fn assigned_in_form(id: ClassId, form: &Form) -> Option<usize>
 }
 
 // Adds a fault for each field that may be blank and isn't assigned at the end.
-fn add_left(is_static: bool, set: &Variables, fields: &[Field], found: &mut FirstFault)
+fn add_left(rule: Rule, is_static: bool, set: &Variables, fields: &[Field], found: &mut FirstFault)
+    ensures { found.new ≡ first_of found.old
+        (end_faults rule is_static (set_view set.now) (map field_view fields.now)) }
+{
+    match rule {
+        Rule::Assigned => add_unassigned(is_static, set, fields, found),
+        Rule::Unassigned => {}
+    }
+}
+
+fn add_unassigned(is_static: bool, set: &Variables, fields: &[Field], found: &mut FirstFault)
     ensures { found.new ≡ first_of found.old
         (left_faults is_static (set_view set.now) 0 (map field_view fields.now)) }
 {
@@ -408,52 +601,67 @@ fn add_left(is_static: bool, set: &Variables, fields: &[Field], found: &mut Firs
 // What is assigned past the initializers of a class, static or not, one after another.
 fn walk_initializers(
     alloc: Global,
+    rule: Rule,
     id: ClassId,
     is_static: bool,
+    start: &Variables,
     initializers: &[Initializer],
     before: Variables,
     found: &mut FirstFault,
 ) -> Result<Variables, Memory>
-    ensures past { IfOk result (λ v. set_view v ≡ initializers_past id is_static
-        (set_view before) (map initializer_view initializers.now)) }
-    ensures faults { OnOk result (found.new ≡ first_of found.old (initializers_faults id is_static
-        (set_view before) (map initializer_view initializers.now))) }
+    ensures past { IfOk result (λ v. set_view v ≡ initializers_past rule id is_static
+        (set_view start.now) (set_view before) (map initializer_view initializers.now)) }
+    ensures faults { OnOk result (found.new ≡ first_of found.old
+        (initializers_faults rule id is_static
+        (set_view start.now) (set_view before) (map initializer_view initializers.now))) }
 {
     let mut past = before;
     for initializer in initializers {
-        past = walk_initializer(alloc, id, is_static, initializer, past, found)?;
+        past = walk_initializer(alloc, rule, id, is_static, start, initializer, past, found)?;
     }
     Ok(past)
 }
 
 fn walk_initializer(
     alloc: Global,
+    rule: Rule,
     id: ClassId,
     is_static: bool,
+    start: &Variables,
     initializer: &Initializer,
     before: Variables,
     found: &mut FirstFault,
 ) -> Result<Variables, Memory>
-    ensures past { IfOk result (λ v. set_view v ≡ initializer_past id is_static
-        (set_view before) (initializer_view initializer.now)) }
-    ensures faults { OnOk result (found.new ≡ first_of found.old (initializer_faults id is_static
-        (set_view before) (initializer_view initializer.now))) }
+    ensures past { IfOk result (λ v. set_view v ≡ initializer_past rule id is_static
+        (set_view start.now) (set_view before) (initializer_view initializer.now)) }
+    ensures faults { OnOk result (found.new ≡ first_of found.old
+        (initializer_faults rule id is_static
+        (set_view start.now) (set_view before) (initializer_view initializer.now))) }
 {
     if !is_of_kind(is_static, initializer.is_static) {
         return Ok(before);
     }
-    let ends = walk_statement(alloc, Some(id), &initializer.body, None, before, found)?;
+    let ends = walk_body(
+        alloc,
+        rule,
+        Some(id),
+        &initializer.locals,
+        start,
+        &initializer.body,
+        before,
+        found,
+    )?;
     Ok(ends.after)
 }
 
 // The set with so many parameters.
-fn with_parameters(count: usize, set: Variables) -> Result<Variables, Memory>
+fn with_parameters(rule: Rule, count: usize, set: Variables) -> Result<Variables, Memory>
     requires { count < 2 ^ 63 }
-    ensures { IfOk result (λ v. set_view v ≡ the_with_parameters count (set_view set)) }
+    ensures { IfOk result (λ v. set_view v ≡ the_with_parameters rule count (set_view set)) }
 {
     let mut all = set;
     for at in 0..count {
-        all.insert(local_number(at))?;
+        all = marked(rule, local_number(at), all)?;
     }
     Ok(all)
 }

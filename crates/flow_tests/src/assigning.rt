@@ -1,7 +1,8 @@
 // Which variables are assigned where they are read (JLS 16).
 
 use crate::trees::{assignment, at, block, constant, for_each, local, reading, while_loop};
-use definite_assignment::walk_statement;
+use assigned_statements::walk_statement;
+use assignment_rules::{Follow, Rule};
 use flow_base::{FaultKind, FirstFault, FlowFault};
 use je_core::{Expr, Memory, Stmt, make_do_loop, make_if, make_jump, make_return};
 use std::alloc::Global;
@@ -10,8 +11,13 @@ use variable_sets::Variables;
 // The first fault of a body without parameters.
 fn first(alloc: Global, body: Stmt) -> Result<Option<FlowFault>, Memory> {
     let mut found = FirstFault::none();
+    let follow = Follow {
+        rule: Rule::Assigned,
+        home: None,
+        finals: Variables::nothing(alloc),
+    };
     let before = Variables::nothing(alloc);
-    let _ = walk_statement(alloc, None, &body, None, before, &mut found)?;
+    let _ = walk_statement(alloc, &follow, &body, None, before, &mut found)?;
     Ok(found.get())
 }
 

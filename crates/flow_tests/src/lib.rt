@@ -9,3 +9,5 @@ mod reaching;
 mod throwing;
 #[cfg(test)]
 mod trees;
+#[cfg(test)]
+mod unassigning;

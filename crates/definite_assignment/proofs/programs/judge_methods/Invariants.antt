@@ -7,5 +7,5 @@ use Rattle.definite_assignment.proofs.programs.judge_methods.Given as goal
 
 abbrev pub invariant-loop-method : goal.invariant-loop-method
 invariant-loop-method l =
-    first_of l.found (methods_faults (program_view l.program) l.id (class_view l.class) (set_view l.past) (map method_view (drop l.method-index l.methods)))
-    ≡ first_of l.fn.found (methods_faults (program_view l.program) l.id (class_view l.class) (set_view l.past) (map method_view l.methods))
+    first_of l.found (methods_faults l.rule (program_view l.program) l.around.id (class_view l.class) (set_view l.around.start) (set_view l.around.past) (map method_view (drop l.method-index l.methods)))
+    ≡ first_of l.fn.found (methods_faults l.rule (program_view l.program) l.around.id (class_view l.class) (set_view l.around.start) (set_view l.around.past) (map method_view l.methods))

@@ -7,6 +7,6 @@ use Rattle.definite_assignment.proofs.programs.walk_initializers.Given as goal
 
 abbrev pub invariant-loop-initializer : goal.invariant-loop-initializer
 invariant-loop-initializer l = record {
-  past : initializers_past l.id l.is_static (set_view l.past) (map initializer_view (drop l.initializer-index l.initializers)) ≡ initializers_past l.id l.is_static (set_view l.fn.before) (map initializer_view l.initializers);
-  faults : first_of l.found (initializers_faults l.id l.is_static (set_view l.past) (map initializer_view (drop l.initializer-index l.initializers))) ≡ first_of l.fn.found (initializers_faults l.id l.is_static (set_view l.fn.before) (map initializer_view l.initializers));
+  past : initializers_past l.rule l.id l.is_static (set_view l.start) (set_view l.past) (map initializer_view (drop l.initializer-index l.initializers)) ≡ initializers_past l.rule l.id l.is_static (set_view l.start) (set_view l.fn.before) (map initializer_view l.initializers);
+  faults : first_of l.found (initializers_faults l.rule l.id l.is_static (set_view l.start) (set_view l.past) (map initializer_view (drop l.initializer-index l.initializers))) ≡ first_of l.fn.found (initializers_faults l.rule l.id l.is_static (set_view l.start) (set_view l.fn.before) (map initializer_view l.initializers));
 }

@@ -5,4 +5,4 @@ use Rattle.definite_assignment.specs.Programs.{with_initialized}
 use Rattle.definite_assignment.proofs.programs.with_initialized.Given as goal
 
 abbrev pub invariant-loop-initializer : goal.invariant-loop-initializer
-invariant-loop-initializer l = with_initialized l.id (map initializer_view (drop l.initializer-index l.initializers)) (set_view l.all) ≡ with_initialized l.id (map initializer_view l.initializers) (set_view l.fn.set)
+invariant-loop-initializer l = with_initialized l.rule l.id (map initializer_view (drop l.initializer-index l.initializers)) (set_view l.all) ≡ with_initialized l.rule l.id (map initializer_view l.initializers) (set_view l.fn.set)

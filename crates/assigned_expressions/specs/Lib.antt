@@ -1,0 +1,4 @@
+pub mod Places
+pub mod Expressions
+pub mod Untouched
+pub mod View

@@ -1,0 +1,3 @@
+pub mod Untouched
+pub mod Statements
+pub mod way
