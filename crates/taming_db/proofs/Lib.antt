@@ -1,0 +1,5 @@
+pub mod Mapped
+pub mod Keys
+pub mod Places
+pub mod OneSaying
+pub mod Reading

@@ -1,0 +1,12 @@
+//! A law of the definitions.
+
+ghost use Rattle.std.specs.Prelude.{◌≡◌, ℕ, List};
+ghost use Rattle.taming_db.specs.Rows.{Found};
+ghost use Rattle.taming_db.specs.Taming.{Says};
+
+/// A text says one thing alone: its rows, or its first fault.
+#[tactic(auto, using(crate::proofs::OneSaying::says_one))]
+pub fn what_is_said_is_one()
+    ensures { (bytes : List ℕ) (one other : Found) → Says bytes one → Says bytes other →
+        one ≡ other }
+{}
