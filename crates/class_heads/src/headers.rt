@@ -3,7 +3,6 @@
 ghost use Rattle.std.specs.Prelude.{◌≡◌, ◌<◌, ◌^◌, ◌∷◌, ◌++◌, [], ℕ, IfOk, OnOk, length, map, not, slice_get};
 ghost use Rattle.je_scopes.specs.Headers.{is_interface_sort};
 ghost use Rattle.name_types.specs.View.{base_shown, plain_shown, shown};
-ghost use Rattle.source_types.specs.Heads.{object_type};
 ghost use Rattle.declarations.specs.View.{class_shown, parameter_shown};
 ghost use Rattle.source_subtypes.specs.HeadView.{head_shown};
 ghost use Rattle.source_subtypes.specs.View.{heads_of};
@@ -17,7 +16,7 @@ use je_base::Memory;
 use je_classes::object_class;
 use je_core::{Base, ClassId, Sort};
 use name_types::{SrcBase, SrcTy};
-use source_subtypes::{ClassHead, ClassHeads, copied};
+use source_subtypes::{ClassHead, ClassHeads, copied, object};
 use std::alloc::Global;
 
 /// The headers of all classes, by number. A class that names no superclass has Object.
@@ -90,15 +89,6 @@ fn bound_of(alloc: Global, parameter: &ParameterDecl) -> Result<SrcTy, Memory>
             Ok(copy)
         }
         None => Ok(object()),
-    }
-}
-
-fn object() -> SrcTy
-    ensures { shown result ≡ object_type }
-{
-    SrcTy {
-        base: SrcBase::Plain(Base::Class(object_class())),
-        dims: 0,
     }
 }
 

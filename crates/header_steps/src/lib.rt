@@ -10,6 +10,7 @@ mod statics;
 mod supers;
 mod throws;
 
+pub use heads::class_of;
 pub use statics::{is_inner, static_class, static_field, static_initializer, static_method};
-pub use supers::{anonymous_super, superclass, superinterface, well_placed};
+pub use supers::{anonymous_super, own_type, superclass, superinterface, throwable, well_placed};
 pub use throws::thrown;

@@ -126,8 +126,8 @@ pub fn well_placed(
     check(TypeRule::BadSuper, span, !(twice || throwable))
 }
 
-// A class with its own type variables as arguments.
-fn own_type(alloc: Global, heads: &ClassHeads, class: ClassId) -> Result<SrcTy, Memory>
+/// A class with its own type variables as arguments.
+pub fn own_type(alloc: Global, heads: &ClassHeads, class: ClassId) -> Result<SrcTy, Memory>
     ensures { IfOk result (λ t. shown t ≡ words.own_type (heads_of heads.now) class.0) }
 {
     let arguments = variables_of(alloc, class, bound_count(heads, class))?;
@@ -223,7 +223,7 @@ fn is_generic_throwable(
 }
 
 /// Throwable.
-pub(crate) fn throwable() -> SrcTy
+pub fn throwable() -> SrcTy
     ensures { shown result ≡ words.throwable_type }
 {
     SrcTy {

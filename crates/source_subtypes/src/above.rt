@@ -132,7 +132,8 @@ fn add_bound(
     }
 }
 
-fn object() -> SrcTy
+/// Object.
+pub fn object() -> SrcTy
     ensures { shown result ≡ object_type }
 {
     SrcTy {

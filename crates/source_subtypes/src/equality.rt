@@ -76,8 +76,9 @@ fn are_none(types: &[SrcTy]) -> bool
     }
 }
 
+/// Whether two lists of types are the same.
 #[cycle(equality)]
-fn are_same(types: &[SrcTy], others: &[SrcTy]) -> bool
+pub fn are_same(types: &[SrcTy], others: &[SrcTy]) -> bool
     ensures { result ≡ same_source_types (all_shown types.now) (all_shown others.now) }
 {
     let mut left = others;

@@ -15,10 +15,10 @@ mod heads;
 mod substitution;
 mod subtypes;
 
-pub use above::supertypes;
+pub use above::{object, supertypes};
 pub use copying::{all_copied, copied};
-pub use equality::is_same;
+pub use equality::{are_same, is_same};
 pub use erasure::erased;
 pub use heads::{ClassHead, ClassHeads};
-pub use substitution::{Arguments, substituted};
+pub use substitution::{Arguments, all_substituted, argument, substituted};
 pub use subtypes::is_subtype;

@@ -56,8 +56,9 @@ fn substituted_base(
     }
 }
 
+/// The same of each of these types.
 #[cycle(substitution)]
-fn all_substituted(
+pub fn all_substituted(
     alloc: Global,
     arguments: Arguments,
     types: &[SrcTy],
@@ -104,8 +105,8 @@ fn the_variable(class: ClassId, at: usize, dims: u8) -> SrcTy
     }
 }
 
-// The type argument at a place.
-fn argument(args: &[SrcTy], at: usize) -> Option<&SrcTy>
+/// The type argument at a place.
+pub fn argument(args: &[SrcTy], at: usize) -> Option<&SrcTy>
     ensures { option_map (λ t. shown t.now) result ≡ argument_at (all_shown args.now) at }
 {
     item(args, at)
