@@ -1,0 +1,4 @@
+pub mod Types
+pub mod Lists
+pub mod Sets
+pub mod Rounds

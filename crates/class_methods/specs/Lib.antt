@@ -1,0 +1,4 @@
+pub mod View
+pub mod Above
+pub mod way
+pub mod HierarchyView
