@@ -1,1 +1,3 @@
 mod Rows
+pub mod Named
+pub mod Selectors

@@ -20,11 +20,12 @@ use Rattle.je_typing.specs.declared.fault.TypeRule.TheVariants.{BadCase, BadCatc
 use Rattle.je_typing.specs.Conversions.{assigned, converted}
 use Rattle.je_typing.specs.Judged.{Judged, bind, breaks, check, gives, need}
 use Rattle.je_typing.specs.Typed.{TypedNode, null_source_type, primitive_type}
+use Rattle.header_typing.specs.Supers.{throwable_type}
 use Rattle.statement_steps.specs.Conditions.{condition, do_loop, if_statement, loop_statement}
 use Rattle.statement_steps.specs.Jumps.{jump, labelled}
 use Rattle.statement_steps.specs.Returns.{a_value, never, no_value, returned, returned_value}
 use Rattle.statement_steps.specs.Switches.{LabelsDone, WrittenLabel, case, default, labels_from, next_label, none_met, selector}
-use Rattle.statement_steps.specs.Thrown.{caught_class, thrown, throwable_type}
+use Rattle.statement_steps.specs.Thrown.{caught_class, thrown}
 
 abbrev at : ℕ → ℕ → Span
 at from to = record { file = 0; start = from; end = to }

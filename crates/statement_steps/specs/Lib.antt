@@ -3,3 +3,5 @@ pub mod Jumps
 pub mod Returns
 pub mod Switches
 pub mod Thrown
+pub mod View
+pub mod way

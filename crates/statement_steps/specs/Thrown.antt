@@ -1,19 +1,16 @@
 -- What is thrown, and what a catch takes (JLS 14.18, 14.20). `span` is the statement's first token.
-use Rattle.std.specs.Prelude.{zero, List, Option, Some, None, codes}
+use Rattle.std.specs.Prelude.{zero, List, Option, Some, None}
 use Rattle.je_base.specs.declared.span.Span.{Span}
 use Rattle.je_core.specs.declared.types.ClassId.{ClassId}
 use Rattle.je_core.specs.Core.{CoreStmt, Throw, stmt}
-use Rattle.je_classes.specs.Hierarchy.{library_class}
-use Rattle.je_scopes.specs.SourceTypes.{SourceType, of_class, no_source_types}
+use Rattle.je_scopes.specs.SourceTypes.{SourceType, of_class}
 use Rattle.source_types.specs.Erasure.{class_numbered}
 use Rattle.source_types.specs.Heads.{ClassHead}
 use Rattle.source_types.specs.Subtypes.{is_subtype}
 use Rattle.je_typing.specs.declared.fault.TypeRule.TheVariants.{BadThrow, BadCatch}
 use Rattle.je_typing.specs.Judged.{Judged, gives, ◌>>=◌, ◌>>◌, check, need}
 use Rattle.je_typing.specs.Typed.{TypedNode}
-
-abbrev pub throwable_type : SourceType
-throwable_type = of_class (library_class (codes "java.lang.Throwable")).0 no_source_types 0
+use Rattle.header_typing.specs.Supers.{throwable_type}
 
 -- `throw null` throws too
 unfoldable pub thrown : List ClassHead → Span → Span → TypedNode → Judged CoreStmt

@@ -7,6 +7,12 @@
 
 mod conditions;
 mod jumps;
+mod returning;
+mod selecting;
+mod throwing;
 
 pub use conditions::{do_loop, if_statement, loop_statement, no_condition};
 pub use jumps::{jump, labelled};
+pub use returning::{Returning, returned};
+pub use selecting::selector;
+pub use throwing::{caught_class, thrown};
