@@ -1,0 +1,11 @@
+use Rattle.std.proofs.Common.{◌≡◌, drop, map}
+use Rattle.std.specs.List.{list_all}
+use Rattle.source_subtypes.specs.View.{heads_of}
+use Rattle.overriding.specs.Overrides.{implements_well}
+use Rattle.class_methods.specs.View.{method_seen}
+use Rattle.override_steps.proofs.implementing.implement_well.Given as goal
+
+abbrev pub invariant-loop-at : goal.invariant-loop-at
+invariant-loop-at l =
+    list_all (λ m. list_all (implements_well (heads_of l.heads) m) (map method_seen l.methods)) (map method_seen (drop l.at l.methods))
+    ≡ list_all (λ m. list_all (implements_well (heads_of l.heads) m) (map method_seen l.methods)) (map method_seen l.methods)
