@@ -1,4 +1,2 @@
-pub mod Turns
 pub mod Checking
 pub mod SmallPrograms
-mod Rows

@@ -1,4 +1,3 @@
-pub mod Places
 pub mod Limits
 pub mod Checked
 pub mod Views

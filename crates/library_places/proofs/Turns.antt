@@ -7,7 +7,7 @@ use Rattle.je_table.specs.declared.classes.ClassRow.{ClassRow}
 use Rattle.je_table.specs.declared.members.MemberRow.{MemberRow}
 use Rattle.je_table.specs.Library.{classes, library}
 use Rattle.je_table.specs.Rows.{Row, class_said, row_of, row_said}
-use Rattle.je_types.specs.Places.{is_row_of, place_from, place_in, library_place}
+use Rattle.library_places.specs.Places.{is_row_of, place_from, place_in, library_place}
 
 pub passed_by : (test : Row → Bool) (n before : ℕ) (row : Row) (rows : List Row) → test row ≡ false → place_from test n (row ∷ rows) before ≡ place_from test (n + 1) rows before
 passed_by test n zero row rows e = let s : suc n ≡ n + 1 = omega arith in rw (e, s) refl

@@ -2,7 +2,7 @@
 
 ghost use Rattle.std.specs.Prelude.{◌≡◌, map};
 ghost use Rattle.je_table.specs.Rows.{row_said};
-ghost use Rattle.je_types.specs.Places.{library_place as the_library_place, is_row_of, place_from};
+ghost use Rattle.library_places.specs.Places.{library_place as the_library_place, is_row_of, place_from};
 
 use je_core::ClassId;
 use je_table::{MemberRow, class_rows, member_rows};

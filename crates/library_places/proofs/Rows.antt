@@ -1,7 +1,7 @@
 -- Worked rows.
 use Rattle.std.proofs.Common.{◌≡◌, ℕ, Some, None, refl}
 use Rattle.std.specs.Prelude.{Bool, true, false, Option}
-use Rattle.je_types.specs.Places.{library_place}
+use Rattle.library_places.specs.Places.{library_place}
 
 abbrev place : ℕ → Bool → ℕ → Option ℕ
 place class is_field at = library_place (record { 0 = class }) is_field at

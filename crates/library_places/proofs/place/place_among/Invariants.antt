@@ -1,7 +1,7 @@
 use Rattle.std.proofs.Common.{◌≡◌, map, drop}
 use Rattle.je_table.specs.Rows.{row_said}
-use Rattle.je_types.specs.Places.{is_row_of, place_from}
-use Rattle.je_types.proofs.library_places.place_among.Given as goal
+use Rattle.library_places.specs.Places.{is_row_of, place_from}
+use Rattle.library_places.proofs.place.place_among.Given as goal
 
 abbrev pub invariant-loop-place : goal.invariant-loop-place
 invariant-loop-place l = place_from (is_row_of l.class l.is_field) l.place (map row_said (drop l.place l.rows)) l.before

@@ -1,8 +1,8 @@
 use Rattle.std.proofs.Common.{◌≡◌, ◌≤◌, ◌<◌, ◌∙◌, sym, ap, length, get_or, Some}
 use Rattle.std.specs.Prelude.{slice_get}
 use Rattle.std.proofs.lemmas.Option.{slice_get-get_or, slice_get_past}
-use Rattle.je_types.proofs.Turns.{no_class, of_class}
-use Rattle.je_types.proofs.library_places.library_place.Goals as goal
+use Rattle.library_places.proofs.Turns.{no_class, of_class}
+use Rattle.library_places.proofs.place.library_place.Goals as goal
 
 pub returns-in_default : goal.returns-in_default
 returns-in_default c = let past : length c.class_rows.result.now ≤ c.args.class.0 = c.in_default.ensures.lookup.3 in
