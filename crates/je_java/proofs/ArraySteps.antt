@@ -5,28 +5,24 @@ use Rattle.je_core.specs.declared.types.Ty.{Ty}
 use Rattle.je_core.specs.declared.value.Value.{Value}
 use Rattle.je_core.specs.Core.{CoreProgram}
 use Rattle.je_java.specs.Steps.{Computation, charge}
-use Rattle.je_java.specs.Arrays.{length_of, place_within, at_place, place_of, read_element, storable, write_element, count_of, counts_of, elements_of, element_of, repeated, filled, nested, make_arrays, array_from}
+use Rattle.je_java.specs.Arrays.{length_of, place_within, place_of, read_element, storable, write_element, count_of, counts_of, elements_of, element_of, repeated, filled, nested, make_arrays, array_from}
 use Rattle.je_java.proofs.Pairs.{Parts, nil, cons, ValueRel, bool, byte, short, char, int, long, null, ref, array, Rel, Laws, Equal, Values, append-both, length-both}
 use Rattle.je_java.proofs.Combinators.{paired-more, value-more, values-more, rel-ret, rel-wrong, rel-if, bind_value, bind_pair, bind_equal, seq_end}
 use Rattle.je_java.proofs.Outcomes.{default-both}
 use Rattle.je_java.proofs.StepsRelated.{rel-charge, rel-get_type, rel-get_extent, rel-get_slot, rel-put_slot, rel-new_object}
-use Rattle.je_java.proofs.MadeSteps.{rel-raise, rel-deref}
+use Rattle.je_java.proofs.MadeSteps.{rel-raise, rel-or_raise, rel-deref}
 
 module _ {R : Parts} (L : Laws R) where
   pub rel-length_of : {k : ℕ} {v w : Value} (program : CoreProgram) → ValueRel R k v w → Rel R k (ValueRel R) (length_of program v) (length_of program w)
   unfolding length_of
   rel-length_of program q = bind_pair (rel-deref L program q) λ i l o o' p. bind_equal (rel-get_extent L p) λ j l' extent. rel-ret _ _ int
 
-  rel-at_place : {k : ℕ} (program : CoreProgram) (at : Option ℕ) → Rel R k Equal (at_place program at) (at_place program at)
-  rel-at_place program None = rel-raise L program _
-  rel-at_place program (Some at) = rel-ret _ _ refl
-
-  rel-place_of : {k : ℕ} {v w : Value} (program : CoreProgram) (count : ℕ) → ValueRel R k v w → Rel R k Equal (place_of program count v) (place_of program count w)
+  pub rel-place_of : {k : ℕ} {v w : Value} (program : CoreProgram) (count : ℕ) → ValueRel R k v w → Rel R k Equal (place_of program count v) (place_of program count w)
   rel-place_of program count bool = rel-wrong L
   rel-place_of program count byte = rel-wrong L
   rel-place_of program count short = rel-wrong L
   rel-place_of program count char = rel-wrong L
-  rel-place_of program count (int {x = x}) = rel-at_place program (place_within count x)
+  rel-place_of program count (int {x = x}) = rel-or_raise L program _ (place_within count x)
   rel-place_of program count long = rel-wrong L
   rel-place_of program count null = rel-wrong L
   rel-place_of program count (ref p) = rel-wrong L

@@ -1,7 +1,8 @@
 -- One lemma for each step that is made of others.
-use Rattle.std.proofs.Common.{ℕ, List, length, Some, refl, subst, arith}
+use Rattle.std.proofs.Common.{ℕ, List, length, Option, Some, None, refl, subst, arith}
 use Rattle.je_core.specs.declared.types.ClassId.{ClassId}
 use Rattle.je_core.specs.declared.types.Ty.{Ty}
+use Rattle.je_core.specs.declared.value.ObjId.{ObjId}
 use Rattle.je_core.specs.declared.value.Value.{Value}
 use Rattle.je_core.specs.declared.value.Value.TheVariants as value
 use Rattle.je_core.specs.declared.expr.BinOp.{BinOp}
@@ -11,7 +12,7 @@ use Rattle.je_java.specs.Equality.{operated}
 use Rattle.je_java.specs.Compound.{placed_outcome, update_outcome}
 use Rattle.je_classes.specs.Hierarchy.{class_at}
 use Rattle.je_classes.specs.Slots.{slot_fields}
-use Rattle.je_java.specs.Steps.{Computation, charge, constant, make, make_text, raise, deref, throw_value, computed, binary, updated, unary, converted_in, convert, is_instance, cast, admit, branch, read_field, write_field, read_static, write_static, read_text}
+use Rattle.je_java.specs.Steps.{Computation, charge, constant, make, make_text, raise, or_raise, deref, throw_value, computed, binary, updated, unary, converted_in, convert, is_instance, cast, admit, get_receiving_class, branch, read_field, write_field, read_static, write_static, read_text}
 use Rattle.je_arith.specs.declared.outcome.Outcome.{Outcome}
 use Rattle.je_arith.specs.declared.outcome.Outcome.TheVariants.{Gives, ByZero, Unfit}
 use Rattle.je_arith.specs.Operators as operators
@@ -45,6 +46,10 @@ module _ {R : Parts} (L : Laws R) where
   pub rel-raise : {A : Type 0} {Q : ℕ → A → A → Type 0} {k : ℕ} (program : CoreProgram) (class : ClassId) → Rel R k Q (raise program class) (raise program class)
   unfolding raise
   rel-raise program class = bind_pair (rel-make program class) λ i l o o' p. rel-throw p
+
+  pub rel-or_raise : {A : Type 0} {k : ℕ} (program : CoreProgram) (class : ClassId) (o : Option A) → Rel R k Equal (or_raise program class o) (or_raise program class o)
+  rel-or_raise program class None = rel-raise program class
+  rel-or_raise program class (Some a) = rel-ret _ _ refl
 
   pub rel-deref : {k : ℕ} {v w : Value} (program : CoreProgram) → ValueRel R k v w → Rel R k (Paired R) (deref program v) (deref program w)
   unfolding deref
@@ -119,6 +124,10 @@ module _ {R : Parts} (L : Laws R) where
   rel-admit program ty long = rel-ret _ _ refl
   rel-admit program ty null = rel-ret _ _ refl
   rel-admit program ty (ref p) = seq_value (rel-cast program ty (ref p)) λ i l. rel-ret _ _ refl
+
+  pub rel-get_receiving_class : {k : ℕ} {o o' : ObjId} → Paired R k o o' → Rel R k Equal (get_receiving_class o) (get_receiving_class o')
+  unfolding get_receiving_class
+  rel-get_receiving_class p = bind_equal (rel-get_type L p) λ i l own. rel-ret _ _ refl
 
   pub rel-branch : {A : Type 0} {Q : ℕ → A → A → Type 0} {k : ℕ} {v w : Value} {m n m' n' : Computation A} → ValueRel R k v w → Rel R k Q m n → Rel R k Q m' n' → Rel R k Q (branch v m m') (branch w n n')
   unfolding branch

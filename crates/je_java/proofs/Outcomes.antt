@@ -187,7 +187,7 @@ module _ {R : Parts} where
       append-both q (subst (λ n. Values R k (map (λ (local : LocalOf). default_of local.ty) (drop (length vs) method.locals)) (map (λ (local : LocalOf). default_of local.ty) (drop n method.locals))) (length-both q) (local-defaults _))
 
 module _ {R : Parts} (L : Laws R) where
-  references-both : {k : ℕ} {v v' w w' : Value} → ValueRel R k v v' → ValueRel R k w w' → same_reference v w ≡ same_reference v' w'
+  pub references-both : {k : ℕ} {v v' w w' : Value} → ValueRel R k v v' → ValueRel R k w w' → same_reference v w ≡ same_reference v' w'
   references-both {k = k} (ref p) (ref q) = ap Some (L.references k _ _ _ _ p.is q.is)
   references-both (ref p) null = refl
   references-both (ref p) bool = refl

@@ -11,7 +11,7 @@ use Rattle.je_core.specs.declared.value.Value.{Value}
 use Rattle.je_core.specs.declared.value.Value.TheVariants as value
 use Rattle.je_java.specs.declared.call.Receiver.{Receiver}
 use Rattle.je_java.specs.declared.call.Receiver.TheVariants as receiver
-use Rattle.je_java.specs.World.{class_of, type_of, extent_of, slot_of, with_slot, units_of, held_by, with_units_at}
+use Rattle.je_java.specs.World.{class_of, type_of, extent_of, count_of, slot_of, with_slot, units_of, held_by, with_units_at}
 use Rattle.je_java.specs.Steps.{State, Own, Public, Answer, Spent, Wrong, Run, Exits, Computation}
 
 -- two runs side by side: when which objects are paired, and which worlds, public parts and answers go together;
@@ -100,6 +100,7 @@ module _ (R : Parts) where
     pub classes : (k : ℕ) (os ps : List Obj) (a b : ℕ) → R.Worlds k os ps → R.Pair k a b → class_of os a ≡ class_of ps b
     pub types : (k : ℕ) (os ps : List Obj) (a b : ℕ) → R.Worlds k os ps → R.Pair k a b → type_of os a ≡ type_of ps b
     pub extents : (k : ℕ) (os ps : List Obj) (a b : ℕ) → R.Worlds k os ps → R.Pair k a b → extent_of os a ≡ extent_of ps b
+    pub counts : (k : ℕ) (os ps : List Obj) (a b : ℕ) → R.Worlds k os ps → R.Pair k a b → count_of os a ≡ count_of ps b
     pub reads : (k : ℕ) (os ps : List Obj) (a b at : ℕ) → R.Worlds k os ps → R.Pair k a b → OptionRel (ValueRel k) (slot_of os a at) (slot_of ps b at)
     pub writes : (k : ℕ) (os ps : List Obj) (a b at : ℕ) (v w : Value) → R.Worlds k os ps → R.Pair k a b → ValueRel k v w → R.Worlds k (with_slot os a at v) (with_slot ps b at w)
     pub texts : (k : ℕ) (os ps : List Obj) (a b : ℕ) → R.Worlds k os ps → R.Pair k a b → units_of os a ≡ units_of ps b

@@ -4,8 +4,8 @@ use Rattle.std.specs.Prelude.{nat_le, if◌then◌else◌, Bool, true, false}
 use Rattle.je_core.specs.declared.object.Obj.{Obj}
 use Rattle.je_core.specs.declared.value.ObjId.{ObjId}
 use Rattle.je_core.specs.declared.value.Value.{Value}
-use Rattle.je_java.specs.World.{class_of, type_of, extent_of, units_of, held_by}
-use Rattle.je_java.specs.Steps.{State, Public, Spent, Run, with_units, charge, get_this, get_local, put_local, get_class, get_type, get_extent, get_slot, put_slot, get_units, put_units, get_static, put_static, new_object}
+use Rattle.je_java.specs.World.{class_of, type_of, extent_of, count_of, units_of, held_by}
+use Rattle.je_java.specs.Steps.{State, Public, Spent, Run, with_units, charge, get_this, get_local, put_local, get_class, get_type, get_extent, get_count, get_slot, put_slot, get_units, put_units, get_static, put_static, new_object}
 use Rattle.je_java.proofs.Pairs.{Parts, OptionRel, Paired, ValueRel, ObjectRel, StateRel, Runs, Rel, Laws, Equal, get-both, set-both}
 use Rattle.je_java.proofs.Combinators.{value-more, values-more, object-more, on_some-both, equal-option}
 
@@ -66,6 +66,15 @@ module _ {R : Parts} (L : Laws R) where
     run = λ f g x y go out. record {
       from = λ i l s t st.
           on_some-both L (subst (λ c. OptionRel (◌≡◌) (extent_of s.world.objects o.0) c) (L.extents i _ _ _ _ st.objects (L.pair-more _ i _ _ l p.is)) (equal-option _)) λ c d q. (go i l c d q).from i (omega arith) s t st;
+    };
+  }
+
+  pub rel-get_count : {k : ℕ} {o o' : ObjId} → Paired R k o o' → Rel R k Equal (get_count o) (get_count o')
+  unfolding get_count
+  rel-get_count {o = o} p = record {
+    run = λ f g x y go out. record {
+      from = λ i l s t st.
+          on_some-both L (subst (λ c. OptionRel (◌≡◌) (count_of s.world.objects o.0) c) (L.counts i _ _ _ _ st.objects (L.pair-more _ i _ _ l p.is)) (equal-option _)) λ c d q. (go i l c d q).from i (omega arith) s t st;
     };
   }
 

@@ -9,7 +9,7 @@ use Rattle.je_core.specs.declared.value.Value.TheVariants.{Int, Ref}
 use Rattle.je_core.specs.Core.{CoreProgram}
 use Rattle.je_classes.specs.Subtypes.{is_subtype}
 use Rattle.je_java.specs.Raised.{array_index, array_store, negative_size}
-use Rattle.je_java.specs.Steps.{Computation, Nothing, ret, ◌>>=◌, ◌>>◌, wrong, charge, get_type, get_extent, get_slot, put_slot, new_object, deref, raise}
+use Rattle.je_java.specs.Steps.{Computation, Nothing, ret, ◌>>=◌, ◌>>◌, wrong, charge, get_type, get_extent, get_slot, put_slot, new_object, deref, raise, or_raise}
 
 -- how many elements an array has, as an int (JLS 10.7)
 unfoldable pub length_of : CoreProgram → Value → Computation Value
@@ -22,13 +22,9 @@ abbrev pub place_within : ℕ → ℤ → Option ℕ
 place_within count (pos at) = if nat_lt at count then Some at else None
 place_within count (negsuc n) = None
 
-abbrev pub at_place : CoreProgram → Option ℕ → Computation ℕ
-at_place program None = raise program array_index
-at_place program (Some at) = ret at
-
 -- the place of an element, within the bounds (JLS 10.4)
 abbrev pub place_of : CoreProgram → ℕ → Value → Computation ℕ
-place_of program count (Int z) = at_place program (place_within count z)
+place_of program count (Int z) = or_raise program array_index (place_within count z)
 place_of program count _ = wrong
 
 -- JLS 15.13.1

@@ -19,7 +19,7 @@ use Rattle.je_classes.proofs.Below.{same_class-equal, or_true, below-itself}
 use Rattle.je_classes.proofs.Dimensions.{alike}
 use Rattle.je_classes.proofs.Lists.{bool_cases}
 use Rattle.je_classes.proofs.Same.{same_base-refl, same_type-equal}
-use Rattle.je_java.specs.Classes.{method_if, method_for}
+use Rattle.je_java.specs.Meaning.{member_at}
 use Rattle.je_fitting.specs.Classes.{same_place, same_places, BridgeFits, ClassFits}
 use Rattle.je_fitting.specs.Expressions.{method_at, is_constructor, can_be_made}
 use Rattle.je_fitting.specs.Members.{AreVariables, results_agree, StandsFor, MethodFits}
@@ -311,12 +311,12 @@ module _ (p : CoreProgram) (f : FitsProgram p) where
     dispatched-runs r None q e = without-bridge r (is_private named) refl (ap (implemented_or_private p own member) (sym is) ∙ e)
     dispatched-runs r (Some y) q e = bridge-runs r (is-bridge (BridgeFits p own) o.bridges member r (class-fits own o there).bridges (sym (ap (λ k. bridged k member) there) ∙ q ∙ e))
 
-    runs-for : can_be_made o ≡ true → (by : CoreMethod) × (method_for p own class at ≡ Some by) × RunsFor p by named
+    runs-for : can_be_made o ≡ true → (to : Member) × (by : CoreMethod) × (dispatched p own (member_at class at) ≡ Some to) × (method_of p to ≡ Some by) × RunsFor p by named
     unfolding dispatched
     runs-for made =
         let found = some-of (dispatched p own member) ((class-fits own o there).implements made class at named (record { there = is; is_above = above; own = instance; no_constructor = method })) in
         let r = dispatched-runs found.0 (bridged (class_at p own) member) refl found.1 in
-        (r.by, ap (method_if p) found.1 ∙ r.is_there, r.runs)
+        (found.0, r.by, found.1, r.is_there, r.runs)
 
 pub calls_are_dispatched : CallsAreDispatched
 calls_are_dispatched p own class o at named f there made above is instance method = runs-for p f own class o at named there above is instance method made

@@ -14,7 +14,9 @@ use Rattle.je_classes.specs.Slots.{slot_fields, field_slot}
 use Rattle.je_classes.specs.Subtypes.{class_type, array_of, number_in_kind, is_subtype}
 use Rattle.je_classes.proofs.Below.{same_class-equal, below-from, below-itself}
 use Rattle.je_classes.proofs.Lists.{bool_cases, contains-any, contains-here, contains-later}
-use Rattle.je_java.specs.Classes.{method_for}
+use Rattle.je_classes.specs.Dispatch.{dispatched}
+use Rattle.je_classes.specs.Members.{Member, method_of}
+use Rattle.je_java.specs.Meaning.{member_at}
 use Rattle.je_java.specs.LibraryClasses.{string_class, builder_class}
 use Rattle.je_java.specs.World.{type_in}
 use Rattle.je_fitting.specs.Classes.{can_be_extended, SuperclassFits, none_above, one_above}
@@ -188,7 +190,7 @@ calls_are_there p world o own class slots at named f s there v is instance metho
     agree : agrees p (class_type own) (class_type class) ≡ true
     agree = subst (λ (u : Ty). agrees p u (class_type class) ≡ true) (sym (same_Some (class_type own) v.own (sym (ap type_in there) ∙ v.has))) v.agree
 
-    by : IsObject p (Instance own slots) → (by : CoreMethod) × (method_for p own class at ≡ Some by) × RunsFor p by named
+    by : IsObject p (Instance own slots) → (to : Member) × (by : CoreMethod) × (dispatched p own (member_at class at) ≡ Some to) × (method_of p to ≡ Some by) × RunsFor p by named
     by (an_instance {c = c} q made has) = calls_are_dispatched p own class c at named f q made (below (classes-agree p own class agree)) is instance method
       where
         below : (same_class class object_class ≡ true) ⊎ (is_below p own class ≡ true) → is_below p own class ≡ true

@@ -9,12 +9,15 @@ use Rattle.je_core.specs.declared.value.ObjId.{ObjId}
 use Rattle.je_core.specs.declared.value.Value.{Value}
 use Rattle.je_core.specs.declared.value.Value.TheVariants.{Ref}
 use Rattle.je_core.specs.Core.{CoreField, CoreMethod, CoreClass, CoreProgram}
+use Rattle.je_classes.specs.Dispatch.{dispatched}
 use Rattle.je_classes.specs.Hierarchy.{class_at, is_below}
+use Rattle.je_classes.specs.Members.{Member, method_of}
 use Rattle.je_classes.specs.Slots.{slot_fields, fresh_slots, field_slot}
 use Rattle.je_classes.specs.Statics.{static_place}
 use Rattle.je_classes.specs.Subtypes.{class_type}
 use Rattle.je_java.specs.declared.call.Receiver.{Receiver}
-use Rattle.je_java.specs.Classes.{method_for, text_place}
+use Rattle.je_java.specs.Classes.{text_place}
+use Rattle.je_java.specs.Meaning.{member_at}
 use Rattle.je_java.specs.World.{World, slot_of, with_slot, with_units_at}
 use Rattle.je_fitting.specs.Types.{agrees, is_variable_type}
 use Rattle.je_fitting.specs.Expressions.{can_be_made, field_at, method_at, is_constructor}
@@ -129,7 +132,8 @@ abbrev pub CallsAreDispatched : Type 0
 CallsAreDispatched = (program : CoreProgram) (own class : ClassId) (o : CoreClass) (at : ℕ) (named : CoreMethod) →
     FitsProgram program → class_at program own ≡ Some o → can_be_made o ≡ true → is_below program own class ≡ true →
     method_at program class at ≡ Some named → named.flags.is_static ≡ false → is_constructor program named ≡ false →
-    (by : CoreMethod) × (method_for program own class at ≡ Some by) × RunsFor program by named
+    (member : Member) × (by : CoreMethod) × (dispatched program own (member_at class at) ≡ Some member) ×
+    (method_of program member ≡ Some by) × RunsFor program by named
 
 -- and the instance fields of each class above its own, each in the slot that it has there.
 abbrev pub FieldsAreInherited : Type 0
@@ -153,4 +157,5 @@ CallsAreThere = (program : CoreProgram) (world : World) (object : ObjId) (own cl
     slice_get world.objects object.0 ≡ Some (Instance own slots) →
     ValueFits program world.objects (class_type class) (Ref object) → method_at program class at ≡ Some named →
     named.flags.is_static ≡ false → is_constructor program named ≡ false →
-    (by : CoreMethod) × (method_for program own class at ≡ Some by) × RunsFor program by named
+    (member : Member) × (by : CoreMethod) × (dispatched program own (member_at class at) ≡ Some member) ×
+    (method_of program member ≡ Some by) × RunsFor program by named

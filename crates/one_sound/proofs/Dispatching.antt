@@ -1,17 +1,19 @@
 -- The method that a One's object has for one of its class is that method itself: no class is above its class, and the
 -- methods have distinct names.
 use Rattle.std.proofs.Common.{◌≡◌, ℕ, zero, suc, ◌+◌, List, [], ◌∷◌, ◌++◌, Some, None, refl, subst, sym, ap, ◌∙◌, eq-eqb, arith}
-use Rattle.std.specs.Prelude.{Bool, true, false, not, ◌&&◌, ◌||◌, slice_get, if◌then◌else◌}
+use Rattle.std.specs.Prelude.{Option, Bool, true, false, not, ◌&&◌, ◌||◌, slice_get, if◌then◌else◌}
 use Rattle.std.proofs.lemmas.Option.{same_Some}
 use Rattle.je_base.specs.declared.span.NameId.{NameId}
 use Rattle.je_core.specs.declared.program.Flags.{Flags}
 use Rattle.je_core.specs.declared.types.Ty.{Ty}
-use Rattle.je_core.specs.Core.{CoreField, CoreMethod}
+use Rattle.je_core.specs.Core.{CoreField, CoreMethod, CoreClass, CoreProgram}
 use Rattle.je_classes.specs.Dispatch.{same_signature, is_own, own_from, unless_abstract, placed, implemented, implemented_or_private, dispatched}
-use Rattle.je_classes.specs.Members.{Member, is_private_access}
+use Rattle.je_classes.specs.Hierarchy.{class_at}
+use Rattle.je_classes.specs.Members.{Member, is_private_access, methods_in, method_of}
 use Rattle.je_classes.specs.Subtypes.{same_types}
 use Rattle.je_classes.proofs.Same.{same_type-refl}
-use Rattle.je_java.specs.Classes.{method_if, method_for}
+use Rattle.je_java.specs.Classes.{method_in, method_at}
+use Rattle.je_java.specs.Meaning.{member_at}
 use Rattle.one_program.specs.declared.scope.Head.{Head}
 use Rattle.one_program.specs.Scope.{Members, same_name, place_of, head_names}
 use Rattle.one_program.specs.Conditions.{IsNot, AreDistinct}
@@ -30,6 +32,15 @@ pub method-found : {members : Members} {heads : List Head} {made : List CoreMeth
 method-found MethodsTyped.none number head e = absurd (cc)
 method-found {members = members} (MethodsTyped.more {m = m} p ps) zero head e = (m, refl, subst (λ h. MethodTyped members h m) (same_Some _ _ e) p)
 method-found (MethodsTyped.more p ps) (suc number) head e = method-found ps number head e
+
+-- the method of a member is that of its number in its class
+method-in : (class : Option CoreClass) (at : ℕ) → method_in class at ≡ slice_get (methods_in class) at
+method-in None at = refl
+method-in (Some class) at = refl
+
+pub method_is : {method : CoreMethod} (program : CoreProgram) (member : Member) → method_at program member.class member.at ≡ Some method →
+    method_of program member ≡ Some method
+method_is program member e = sym (method-in (class_at program member.class) member.at) ∙ e
 
 -- a list's element stays at its place where a list follows
 pub slice_get-front : {A : Type 0} {x : A} (xs ys : List A) (at : ℕ) → slice_get xs at ≡ Some x →
@@ -91,17 +102,16 @@ own-found (MethodsTyped.more {head = own} {heads = heads} {m = j} {ms = ms} p ps
 
 pub dispatch-found : {members : Members} {heads : List Head} {made : List CoreMethod} (x : NameId) (fields : List CoreField) (new : NameId) → MethodsTyped members heads made →
     AreDistinct (head_names heads) → (number : ℕ) (head : Head) (k : CoreMethod) → slice_get heads number ≡ Some head → head.is_static ≡ false → slice_get made number ≡ Some k →
-    method_for (program_with x fields made new) one_class one_class number ≡ Some k
+    dispatched (program_with x fields made new) one_class (member_at one_class number) ≡ Some (member_at one_class number)
 unfolding dispatched implemented
 dispatch-found {made = made} x fields new fs d number head k e s m =
     let p = program_with x fields made new in
     let found = method-found fs number head e in
     let same : found.0 ≡ k = same_Some _ _ (sym found.1 ∙ m) in
     let flags : k.flags ≡ flags_of false = ap (λ (j : CoreMethod). j.flags) (sym same) ∙ own-flags found.0 head.is_static found.2.flags s in
-    let member : Member = record { class = one_class; at = number } in
+    let member : Member = member_at one_class number in
     let there : slice_get (made ++ default_constructor new ∷ []) number ≡ Some k = slice_get-front made (default_constructor new ∷ []) number m in
-    ap (λ o. method_if p (implemented_or_private p one_class member o)) there
-    ∙ ap (λ (g : Flags). method_if p (if is_private_access g.access then unless_abstract k member else implemented p one_class k)) flags
-    ∙ ap (λ o. method_if p (placed one_class o None)) (own-found fs d number head k e s m (default_constructor new ∷ []) 0 number (omega arith))
-    ∙ ap (λ (g : Flags). method_if p (if g.is_abstract then None else Some member)) flags
-    ∙ there
+    ap (λ o. implemented_or_private p one_class member o) there
+    ∙ ap (λ (g : Flags). if is_private_access g.access then unless_abstract k member else implemented p one_class k) flags
+    ∙ ap (λ o. placed one_class o None) (own-found fs d number head k e s m (default_constructor new ∷ []) 0 number (omega arith))
+    ∙ ap (λ (g : Flags). if g.is_abstract then None else Some member) flags

@@ -11,7 +11,8 @@ use Rattle.je_java.specs.declared.call.Receiver.{Receiver}
 use Rattle.je_java.specs.declared.call.Receiver.TheVariants as receiver
 use Rattle.je_java.specs.World.{World}
 use Rattle.je_java.specs.Steps.{State, Outside, Computation, Answer, Done, Thrown, Wrong}
-use Rattle.je_java.specs.Meaning.{java, call, call_by, replied, ends, state_at}
+use Rattle.je_classes.specs.Members.{Member}
+use Rattle.je_java.specs.Meaning.{java, call, call_by, member_at, replied, ends, state_at}
 use Rattle.one_syntax.specs.Trees.{OneTree}
 use Rattle.one_program.specs.Conditions.{Fits, IsMain}
 use Rattle.one_program.specs.Elaboration.{one_class, program_of}
@@ -21,11 +22,11 @@ use Rattle.one_sound.specs.Fitting.{new_world, no_outside, IsReceiver, of_static
 use Rattle.one_sound.specs.Replies.{Replies, an_int, units_spent}
 use Rattle.one_sound.proofs.Kept.{invariant}
 use Rattle.one_sound.proofs.Program.{program-typed}
-use Rattle.one_sound.proofs.Dispatching.{types-same}
-use Rattle.one_sound.proofs.Safe.{Safe, Any, safe-need, safe-bind, safe-seq, safe-ret, safe-get_class}
+use Rattle.one_sound.proofs.Dispatching.{types-same, method_is}
+use Rattle.one_sound.proofs.Safe.{Safe, Any, safe-need, safe-bind, safe-seq, safe-ret, safe-get_receiving_class}
 use Rattle.one_sound.proofs.Sound.{java_keeps, keeps-method}
 use Rattle.one_sound.proofs.Typing.{Context, MethodTyped, ProgramTyped}
-use Rattle.one_sound.proofs.Values.{IsInt, Ints, IsOwnObject, Holds, an_object, class_at_object, no_more}
+use Rattle.one_sound.proofs.Values.{IsInt, Ints, IsOwnObject, Holds, an_object, type_at_object, no_more}
 
 -- the context of a call whose caller has nothing of its own
 abbrev outside : Context
@@ -40,11 +41,11 @@ abbrev Whole : {A : Type 0} → ℕ → ℕ → (ℕ → A → Type 0) → Compu
 Whole fields count Q m = Safe (invariant fields) (λ t value. ⊥) count outside outside Q m
 
 module _ {members : Members} {program : CoreProgram} (p : ProgramTyped members program) where
-  replied-keeps : {count arity : ℕ} {x : NameId} {is_static : Bool} (method : CoreMethod) (this : Value) (given : List Value) →
+  replied-keeps : {count arity : ℕ} {x : NameId} {is_static : Bool} (member : Member) (method : CoreMethod) (this : Value) (given : List Value) →
       MethodTyped members (record { name = x; is_static = is_static; arity = arity }) method → Ints arity given →
       (is_static ≡ false → Holds object count this) →
-      Whole (length members.fields) count IsReply (replied (java program) method this given)
-  replied-keeps method this given f q r = safe-bind (keeps-method (java_keeps p) method this given f q r) λ u l value h.
+      Whole (length members.fields) count IsReply (replied program (java program) member method this given)
+  replied-keeps member method this given f q r = safe-bind (keeps-method (java_keeps p) program member method this given f q r) λ u l value h.
       rw f.returns (safe-ret _ (of_int h))
     where
       of_int : {count : ℕ} {value : Value} → Holds int count value → IsReply count (Some value)
@@ -57,12 +58,15 @@ module _ {members : Members} {program : CoreProgram} (p : ProgramTyped members p
   unfolding call_by
   call-keeps number _ given e of_static q =
       let found = p.method number _ e in
-      safe-need _ found.1 (replied-keeps found.0 Null given found.2 q λ h. absurd (cc))
+      safe-need _ found.1 (replied-keeps (member_at one_class number) found.0 Null given found.2 q λ h. absurd (cc))
   call-keeps number _ given e (of_instance {o = o} b) q =
       let found = p.method number _ e in
-      let class = safe-get_class {Q = λ u own. own ≡ one_class} o one_class (λ objects r. class_at_object o.0 b r) refl in
-      safe-bind class λ u l own h. rw h (safe-need _ found.1 (safe-need _ (p.own_method number _ found.0 e refl found.1)
-      (rw (types-same found.0.params) (safe-seq {P = Any} (safe-ret tt (record {})) λ v k. replied-keeps found.0 (Ref o) given found.2 q λ z. an_object (omega arith)))))
+      let class = safe-get_receiving_class o one_class (λ objects r. type_at_object o.0 b r) in
+      let by = p.own_method number _ found.0 e refl found.1 in
+      let there = method_is program (member_at one_class number) found.1 in
+      safe-bind class λ u l own h. rw h (safe-need _ found.1 (safe-need _ by (safe-need _ there
+      (rw (types-same found.0.params) (safe-seq {P = Any} (safe-ret tt (record {})) λ v k.
+      replied-keeps (member_at one_class number) found.0 (Ref o) given found.2 q λ z. an_object (omega arith))))))
 
 done : {count : ℕ} {reply : Option Value} (s : State) → IsReply count reply → Replies (Done reply s)
 done s is_reply = an_int

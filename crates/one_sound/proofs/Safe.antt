@@ -1,6 +1,6 @@
 -- What evaluation keeps, whatever it is: an invariant of states, and computations that keep it and come to a fine answer.
-use Rattle.std.proofs.Common.{◌≡◌, ℕ, zero, suc, ◌-◌, List, [], ◌∷◌, ◌++◌, length, Option, Some, subst, sym}
-use Rattle.std.specs.Prelude.{Bool, true, false, ℤ, nat_le, if◌then◌else◌, slice_get, slice_set}
+use Rattle.std.proofs.Common.{◌≡◌, ℕ, zero, suc, ◌-◌, List, [], ◌∷◌, ◌++◌, length, Option, Some, refl, ap, subst, sym}
+use Rattle.std.specs.Prelude.{Bool, true, false, is_none, ℤ, nat_le, if◌then◌else◌, slice_get, slice_set}
 use Rattle.je_core.specs.Defaults.{default_of}
 use Rattle.je_core.specs.declared.expr.BinOp.{BinOp}
 use Rattle.je_core.specs.declared.object.Obj.{Obj}
@@ -12,11 +12,14 @@ use Rattle.je_core.specs.declared.value.Value.{Value}
 use Rattle.je_core.specs.declared.value.Value.TheVariants.{Int, Ref}
 use Rattle.je_classes.specs.Slots.{fresh_slots, field_slot}
 use Rattle.je_java.specs.Classes.{locals_for}
-use Rattle.je_java.specs.World.{class_of, slot_of, with_slot, units_of, held_by, with_units_at}
+use Rattle.je_classes.specs.Members.{Member}
+use Rattle.je_classes.specs.Subtypes.{class_type}
+use Rattle.je_core.specs.declared.types.Ty.{Ty}
+use Rattle.je_java.specs.World.{type_of, slot_of, with_slot, units_of, held_by, with_units_at}
 use Rattle.je_arith.specs.declared.outcome.Outcome.TheVariants.{Gives}
 use Rattle.je_arith.specs.Operators.{binary as binary_outcome}
-use Rattle.je_java.specs.Steps.{State, Own, Answer, Spent, Run, Nothing, Exits, Computation, ret, bind, seq, yields, spent, throw, leave, need, framed, with_own, with_objects, with_units, tick, tick_at, charge, get_this, get_local, put_local, get_class, get_slot, put_slot, get_units, put_units, new_object, make, make_text, raise, deref, computed, binary, read_field, write_field}
-use Rattle.je_java.specs.Meaning.{Meanings, run_method}
+use Rattle.je_java.specs.Steps.{State, Own, Answer, Spent, Run, Nothing, Exits, Computation, ret, bind, seq, yields, spent, throw, leave, need, framed, with_own, with_objects, with_units, tick, tick_at, charge, get_this, get_local, put_local, get_type, get_receiving_class, receiving_class, get_slot, put_slot, get_units, put_units, new_object, make, make_text, raise, deref, computed, binary, read_field, write_field}
+use Rattle.je_java.specs.Meaning.{Meanings, run_method, run_member}
 
 -- what holds of states between the steps
 pub record Invariant : Type 1 where
@@ -189,11 +192,11 @@ module _ {I : Invariant} {L : Known I Value} {t : I.Time} {c : I.Context} where
         rw found.1 (on.from t (I.same t) value r (with_own s (record s.own { locals = slice_set s.own.locals at value })) (record { objects = fits.objects; own = found.2 }));
   }
 
-  pub safe-get_class : {Q : Known I ClassId} (object : ObjId) (class : ClassId) →
-      ((objects : List Obj) → I.ObjectsFit t objects → class_of objects object.0 ≡ Some class) → Q t class →
-      Safe I L t c c Q (get_class object)
-  unfolding get_class
-  safe-get_class object class q r = record { run = λ go exits on out s fits. rw (q s.world.objects fits.objects) (on.from t (I.same t) class r s fits) }
+  pub safe-get_type : {Q : Known I Ty} (object : ObjId) (ty : Ty) →
+      ((objects : List Obj) → I.ObjectsFit t objects → type_of objects object.0 ≡ Some ty) → Q t ty →
+      Safe I L t c c Q (get_type object)
+  unfolding get_type
+  safe-get_type object ty q r = record { run = λ go exits on out s fits. rw (q s.world.objects fits.objects) (on.from t (I.same t) ty r s fits) }
 
   pub safe-get_slot : {Q : Known I Value} (object : ObjId) (at : ℕ) →
       ((objects : List Obj) → I.ObjectsFit t objects →
@@ -291,6 +294,15 @@ module _ {I : Invariant} {L : Known I Value} {t : I.Time} {c : I.Context} where
   unfolding deref bind ret
   safe-deref program object f p = record { run = λ go exits on out. p.run go exits on out }
 
+  -- of an object of a class the methods are those of that class
+  pub safe-get_receiving_class : (object : ObjId) (class : ClassId) →
+      ((objects : List Obj) → I.ObjectsFit t objects → type_of objects object.0 ≡ Some (class_type class)) →
+      Safe I L t c c (λ u own. own ≡ class) (get_receiving_class object)
+  unfolding get_receiving_class
+  safe-get_receiving_class object class q =
+      safe-bind (safe-get_type {Q = λ u own. own ≡ class_type class} object (class_type class) q refl) λ u l own e.
+      safe-ret (receiving_class own.dims own.base) (ap (λ (ty : Ty). receiving_class ty.dims ty.base) e)
+
   pub safe-read_field : {Q : Known I Value} {slot : ℕ} (program : CoreProgram) (class : ClassId) (field : ℕ) (object : ObjId) →
       field_slot program class field ≡ Some slot →
       ((objects : List Obj) → I.ObjectsFit t objects →
@@ -315,3 +327,9 @@ module _ {I : Invariant} {L : Known I Value} {t : I.Time} {c : I.Context} where
       ((u : I.Time) → I.Later t u → Q u (default_of method.returns)) →
       Safe I L t c c Q (run_method m method this given)
   safe-run_method m method this given b f p gives q = safe-need _ b (safe-framed _ _ f p gives q)
+
+  -- a method that has a body is no member of the library
+  pub safe-run_member : {Q : Known I Value} {block : CoreStmt} (program : CoreProgram) (m : Meanings) (member : Member) (method : CoreMethod) (this : Value) (given : List Value) →
+      method.body ≡ Some block → Safe I L t c c Q (run_method m method this given) →
+      Safe I L t c c Q (run_member program m member method this given)
+  safe-run_member program m member method this given b p = rw (ap is_none b) p

@@ -1,6 +1,6 @@
 -- Evaluation of well typed nodes keeps what holds of the states of a One: a line a form.
-use Rattle.std.proofs.Common.{◌≡◌, ℕ, zero, suc, ◌+◌, ◌≤◌, List, [], ◌∷◌, length, Some, refl, sym, subst, arith}
-use Rattle.std.specs.Prelude.{Bool, true, false, slice_get}
+use Rattle.std.proofs.Common.{◌≡◌, ℕ, zero, suc, ◌+◌, ◌≤◌, List, [], ◌∷◌, length, Some, refl, sym, ap, ◌∙◌, subst, arith}
+use Rattle.std.specs.Prelude.{Bool, true, false, is_none, slice_get}
 use Rattle.std.proofs.lemmas.List.Elements.{All-nil}
 use Rattle.je_core.specs.Core.{Core, CoreForm, CoreStmt, CoreMethod, CoreProgram, form_of, ty_of, stmt_form_of}
 use Rattle.je_core.specs.declared.types.Ty.{Ty}
@@ -8,14 +8,15 @@ use Rattle.je_base.specs.declared.span.NameId.{NameId}
 use Rattle.je_core.specs.declared.value.Value.{Value}
 use Rattle.je_core.specs.declared.value.Value.TheVariants.{Int, Null, Ref}
 use Rattle.je_java.specs.Steps.{Computation, constant}
-use Rattle.je_java.specs.Meaning.{Meanings, adding, with_values, run_method, run_virtual, run_exact, run_new, apply, start_call, eval_form, block, exec_form, meanings, java}
+use Rattle.je_java.specs.Meaning.{Meanings, adding, with_values, run_member, run_virtual, run_exact, run_new, apply, member_at, has_no_body, start_call, eval_form, block, exec_form, meanings, java}
 use Rattle.one_program.specs.Elaboration.{one_class}
 use Rattle.one_program.specs.declared.scope.Sort.{Sort}
 use Rattle.one_program.specs.declared.scope.Sort.TheVariants.{Int as int, Object as object}
 use Rattle.one_program.specs.Scope.{Members}
-use Rattle.one_sound.proofs.Dispatching.{types-same}
-use Rattle.one_sound.proofs.Safe.{Safe, Any, safe-ret, safe-bind, safe-seq, safe-yields, safe-need, safe-spent, safe-leave, safe-tick, safe-deref, safe-get_class, safe-run_method}
-use Rattle.one_sound.proofs.Values.{IsInt, Ints, Ints-push, Holds, an_int, an_object, Holds-later, class_at_object}
+use Rattle.je_classes.specs.Members.{Member}
+use Rattle.one_sound.proofs.Dispatching.{types-same, method_is}
+use Rattle.one_sound.proofs.Safe.{Safe, Any, safe-ret, safe-bind, safe-seq, safe-yields, safe-need, safe-spent, safe-leave, safe-tick, safe-deref, safe-get_receiving_class, safe-run_method, safe-run_member}
+use Rattle.one_sound.proofs.Values.{IsInt, Ints, Ints-push, Holds, an_int, an_object, Holds-later, type_at_object}
 use Rattle.one_sound.proofs.Typing.{Context, ExprTyped, FormTyped, AllTyped, StmtTyped, StmtsTyped, MethodTyped, ConstructorTyped, ProgramTyped}
 use Rattle.one_sound.proofs.Kept.{invariant, Keeps, keeps-this, keeps-get_local, keeps-put_local, keeps-binary, keeps-read_field, keeps-write_field, keeps-initialize, keeps-make, own-begins}
 
@@ -60,24 +61,24 @@ module _ {members : Members} {m : Meanings} (g : KeepsAll members m) where
   keeps-block (StmtsTyped.next f fs) t = safe-seq (g.exec f t) λ u l. keeps-block fs u
 
   -- whatever the caller itself returns
-  pub keeps-method : {L : ℕ → Value → Type 0} {c : Context} {t : ℕ} {x : NameId} {is_static : Bool} {arity : ℕ} (method : CoreMethod) (this : Value) (given : List Value) →
+  pub keeps-method : {L : ℕ → Value → Type 0} {c : Context} {t : ℕ} {x : NameId} {is_static : Bool} {arity : ℕ} (program : CoreProgram) (member : Member) (method : CoreMethod) (this : Value) (given : List Value) →
       MethodTyped members (record { name = x; is_static = is_static; arity = arity }) method → Ints arity given →
       (is_static ≡ false → Holds object t this) →
-      Safe (invariant (length members.fields)) L t c c (Holds int) (run_method m method this given)
-  keeps-method {t = t} method this given f q r =
-      safe-run_method m method this given f.has_body (own-begins method this f.params given f.room (subst (λ n. Ints n given) (sym f.arity) q) r)
+      Safe (invariant (length members.fields)) L t c c (Holds int) (run_member program m member method this given)
+  keeps-method {t = t} program member method this given f q r =
+      safe-run_member program m member method this given f.has_body (safe-run_method m method this given f.has_body (own-begins method this f.params given f.room (subst (λ n. Ints n given) (sym f.arity) q) r)
       (g.exec f.fits t)
       (λ u value h. h)
-      (λ u l. rw f.returns an_int)
+      (λ u l. rw f.returns an_int))
 
-  keeps-constructor : {c : Context} {t : ℕ} (method : CoreMethod) (this : Value) → ConstructorTyped members method →
+  keeps-constructor : {c : Context} {t : ℕ} (program : CoreProgram) (member : Member) (method : CoreMethod) (this : Value) → ConstructorTyped members method →
       Holds object t this →
-      Keeps (length members.fields) t c c Any (run_method m method this [])
-  keeps-constructor {t = t} method this f r =
-      safe-run_method m method this [] f.has_body (own-begins method this [] [] (omega arith) (record { length_is = refl; all = All-nil IsInt }) (λ e. r))
+      Keeps (length members.fields) t c c Any (run_member program m member method this [])
+  keeps-constructor {t = t} program member method this f r =
+      safe-run_member program m member method this [] f.has_body (safe-run_method m method this [] f.has_body (own-begins method this [] [] (omega arith) (record { length_is = refl; all = All-nil IsInt }) (λ e. r))
       (g.exec f.fits t)
       (λ u value h. record {})
-      (λ u l. record {})
+      (λ u l. record {}))
 
 module _ {members : Members} {program : CoreProgram} (p : ProgramTyped members program) {m : Meanings} (g : KeepsAll members m) where
   keeps-run_exact : {c : Context} {t : ℕ} {x : NameId} {arity : ℕ} (number : ℕ) (given : List Value) →
@@ -86,7 +87,7 @@ module _ {members : Members} {program : CoreProgram} (p : ProgramTyped members p
       Keeps (length members.fields) t c c (Holds int) (run_exact program m one_class number Null given)
   keeps-run_exact number given e q =
       let found = p.method number _ e in
-      safe-need _ found.1 (rw found.2.flags (keeps-method g found.0 Null given found.2 q λ h. absurd (cc)))
+      safe-need _ found.1 (rw found.2.flags (keeps-method g program (member_at one_class number) found.0 Null given found.2 q λ h. absurd (cc)))
 
   keeps-run_virtual : {c : Context} {t : ℕ} {x : NameId} {arity : ℕ} {this : Value} (number : ℕ) (given : List Value) →
       slice_get members.methods number ≡ Some (record { name = x; is_static = false; arity = arity }) →
@@ -94,17 +95,20 @@ module _ {members : Members} {program : CoreProgram} (p : ProgramTyped members p
       Keeps (length members.fields) t c c (Holds int) (run_virtual program m one_class number this given)
   keeps-run_virtual number given e (an_object {o = o} b) q =
       let found = p.method number _ e in
-      let class = safe-get_class {Q = λ u own. own ≡ one_class} o one_class (λ objects r. class_at_object o.0 b r) refl in
+      let class = safe-get_receiving_class o one_class (λ objects r. type_at_object o.0 b r) in
+      let by = p.own_method number _ found.0 e refl found.1 in
+      let there = method_is program (member_at one_class number) found.1 in
       safe-deref program o _ (safe-bind class λ u l own h.
-      rw h (safe-need _ found.1 (safe-need _ (p.own_method number _ found.0 e refl found.1)
-      (rw (types-same found.0.params) (safe-seq {P = Any} (safe-ret tt (record {})) λ v k. keeps-method g found.0 (Ref o) given found.2 q λ z. an_object (omega arith))))))
+      rw h (safe-need _ found.1 (safe-need _ by (safe-need _ there
+      (rw (types-same found.0.params) (safe-seq {P = Any} (safe-ret tt (record {})) λ v k.
+      keeps-method g program (member_at one_class number) found.0 (Ref o) given found.2 q λ z. an_object (omega arith)))))))
 
   keeps-run_new : {c : Context} {t : ℕ} →
       Keeps (length members.fields) t c c (Holds object) (run_new program m one_class (length members.methods) [] [])
   keeps-run_new =
       let found = p.constructor in
-      safe-bind (keeps-make program p.fresh p.are_ints) λ u l o h.
-      safe-need _ found.1 (safe-yields (Ref o) (keeps-constructor g found.0 (Ref o) found.2 h) λ v k. Holds-later k h)
+      rw (ap has_no_body found.1 ∙ ap is_none found.2.has_body) (safe-bind (keeps-make program p.fresh p.are_ints) λ u l o h.
+      safe-need _ found.1 (safe-yields (Ref o) (keeps-constructor g program (member_at one_class (length members.methods)) found.0 (Ref o) found.2 h) λ v k. Holds-later k h))
 
   keeps-form : {c d : Context} {sort : Sort} {form : CoreForm} (ty : Ty) → FormTyped members c d sort form → (t : ℕ) →
       Keeps (length members.fields) t c d (Holds sort) (eval_form program m ty form)

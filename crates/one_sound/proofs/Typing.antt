@@ -11,7 +11,9 @@ use Rattle.je_core.specs.declared.value.Value.TheVariants.{Int}
 use Rattle.je_core.specs.Core.{Core, CoreForm, Const, Local, This, Field, Assign, Binary, CallVirtual, CallExact, New, Cores, CoreStmt, CoreStmts, Block, Do, Return, CoreMethod, CoreProgram, node, stmt, no_core, list_of, stmt_list_of}
 use Rattle.je_core.specs.Core as core
 use Rattle.je_classes.specs.Slots.{fresh_slots, field_slot}
-use Rattle.je_java.specs.Classes.{method_at, method_for}
+use Rattle.je_classes.specs.Dispatch.{dispatched}
+use Rattle.je_java.specs.Classes.{method_at}
+use Rattle.je_java.specs.Meaning.{member_at}
 use Rattle.one_program.specs.Conditions.{is_operator}
 use Rattle.one_program.specs.Elaboration.{one_class, int_type, flags_of}
 use Rattle.one_program.specs.declared.scope.Head.{Head}
@@ -117,5 +119,5 @@ pub record ProgramTyped (members : Members) (program : CoreProgram) : Type 0 whe
       (method : CoreMethod) × (method_at program one_class number ≡ Some method) × MethodTyped members head method
   -- no class is above the one, and its methods have distinct names
   pub own_method : (number : ℕ) (head : Head) (method : CoreMethod) → slice_get members.methods number ≡ Some head → head.is_static ≡ false →
-      method_at program one_class number ≡ Some method → method_for program one_class one_class number ≡ Some method
+      method_at program one_class number ≡ Some method → dispatched program one_class (member_at one_class number) ≡ Some (member_at one_class number)
   pub constructor : (method : CoreMethod) × (method_at program one_class (length members.methods) ≡ Some method) × ConstructorTyped members method

@@ -9,7 +9,8 @@ use Rattle.je_core.specs.declared.object.Obj.TheVariants.{Instance}
 use Rattle.je_core.specs.declared.value.ObjId.{ObjId}
 use Rattle.je_core.specs.declared.value.Value.{Value}
 use Rattle.je_core.specs.declared.value.Value.TheVariants.{Int, Null, Ref}
-use Rattle.je_java.specs.World.{class_of, slot_of, with_slot}
+use Rattle.je_classes.specs.Subtypes.{class_type}
+use Rattle.je_java.specs.World.{type_of, slot_of, with_slot}
 use Rattle.one_program.specs.Elaboration.{one_class}
 use Rattle.one_program.specs.declared.scope.Sort.{Sort}
 use Rattle.one_program.specs.declared.scope.Sort.TheVariants.{Int as int, Object as object}
@@ -59,9 +60,9 @@ module _ {fields : ℕ} where
           (slots : List Value) × (slice_get objects at ≡ Some (Instance one_class slots)) × Ints fields slots
       by _ e (own_object {slots = slots} r) = (slots, e, r)
 
-  pub class_at_object : {count : ℕ} {objects : List Obj} (at : ℕ) → at < count → ObjectsFit fields count objects →
-      class_of objects at ≡ Some one_class
-  class_at_object at h q = let found = object_at at q h in rw found.1 refl
+  pub type_at_object : {count : ℕ} {objects : List Obj} (at : ℕ) → at < count → ObjectsFit fields count objects →
+      type_of objects at ≡ Some (class_type one_class)
+  type_at_object at h q = let found = object_at at q h in rw found.1 refl
 
   pub slot_at_object : {count : ℕ} {objects : List Obj} (at slot : ℕ) → at < count → slot < fields →
       ObjectsFit fields count objects →

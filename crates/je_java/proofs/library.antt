@@ -1,0 +1,13 @@
+pub mod ArgumentSteps
+pub mod StringSteps
+pub mod BuilderSteps
+pub mod NumberSteps
+pub mod ObjectSteps
+pub mod MemberSteps
+pub mod Program
+pub mod StringRows
+pub mod BuilderRows
+pub mod NumberRows
+pub mod ObjectRows
+pub mod CallRows
+pub mod Complete
