@@ -62,6 +62,14 @@ fn write(heap: &mut Heap, id: u64, letters: Units) -> Result<(), Memory> {
     Ok(())
 }
 
+// Puts letters behind those of a builder, if it is there.
+fn add(heap: &mut Heap, id: u64, letters: &[u16]) -> Result<(), Memory> {
+    if heap.is_builder(ObjId(id)) {
+        heap.add_units(ObjId(id), letters)?;
+    }
+    Ok(())
+}
+
 // The units of a text or builder, and none of any other object.
 fn letters(heap: &Heap, id: u64) -> &[u16] {
     match heap.units(ObjId(id)) {
@@ -233,6 +241,21 @@ fn a_turn_rolled_back_leaves_nothing(rt: HostRuntime) -> Result<(), Memory> {
     assert_eq!(rt; letters(&heap, 1), [97].as_slice());
     assert_eq!(rt; heap.shape(ObjId(2)), None);
     assert_eq!(rt; heap.page(0).len(), 1);
+    Ok(())
+}
+
+#[test]
+fn units_behind_others_are_taken_off_again(rt: HostRuntime) -> Result<(), Memory> {
+    let mut heap = heap_in_turn(rt.alloc())?;
+    add(&mut heap, 1, &[98, 99])?;
+    write(&mut heap, 1, units(rt.alloc(), &[100])?)?;
+    add(&mut heap, 1, &[101])?;
+    assert_eq!(rt; letters(&heap, 1), [100, 101].as_slice());
+    assert_eq!(rt; heap.saved(), 3);
+    if heap.in_turn() {
+        heap.roll_back();
+    }
+    assert_eq!(rt; letters(&heap, 1), [97].as_slice());
     Ok(())
 }
 

@@ -1,6 +1,6 @@
 -- What was noted of writes gives the world in which a turn began.
 use Rattle.std.proofs.Common.{◌≡◌, ◌≤◌, ℕ, zero, suc, Bool, true, false, nat_lt, List, [], ◌∷◌, ◌++◌, length, take, Option, Some, None, refl, sym, ◌∙◌, ap, subst, true≢false, arith}
-use Rattle.std.specs.Prelude.{slice_get, slice_set, is_some, IfSome}
+use Rattle.std.specs.Prelude.{slice_get, slice_set, is_some, IfSome, option_map}
 use Rattle.std.proofs.Math.Seq.{take-length}
 use Rattle.std.proofs.lemmas.Option.{none-some, same_Some}
 use Rattle.std.proofs.lemmas.List.{take-append-le}
@@ -11,10 +11,11 @@ use Rattle.je_core.specs.declared.value.ObjId.{ObjId}
 use Rattle.je_core.specs.declared.value.Value.{Value}
 use Rattle.je_java.specs.World.{World, slots_of, with_slots, slot_in, slot_of, with_slot_in, with_slot, units_in, units_of, with_units, with_units_in, with_units_at}
 use Rattle.je_heap.specs.declared.turn.Saved.{Saved}
-use Rattle.je_heap.specs.declared.turn.Saved.TheVariants.{Slot, Units, Variable}
-use Rattle.je_heap.specs.Contents.{Contents, with_objects, with_slot_written, with_units_written, with_static_written, world_before}
+use Rattle.je_heap.specs.declared.turn.Saved.TheVariants.{Slot, Units, Length, Variable}
+use Rattle.je_heap.specs.Contents.{Contents, with_objects, with_slot_written, with_units_written, with_units_added, with_static_written, world_before}
+use Rattle.je_heap.specs.Growing.{units_within, lengthened_in, lengthened, shortened_in, shortened}
 use Rattle.je_heap.specs.Shape.{is_builder}
-use Rattle.je_heap.specs.Turns.{Turn, slot_noted, units_noted, variable_noted, undone, all_undone, with_first, before}
+use Rattle.je_heap.specs.Turns.{Turn, slot_noted, units_noted, length_noted, variable_noted, undone, all_undone, with_first, before}
 
 -- ---- lists
 
@@ -188,7 +189,110 @@ no-units os id us is =
 pub as_many_texts_left : (os : List Obj) (id : ℕ) (us : List ℕ) → length (with_units_at os id us) ≡ length os
 as_many_texts_left os id us = ap length (units-are os id us) ∙ length-changed os id (units_put us)
 
+-- ---- units behind others
+
+unfoldable units_grown : List ℕ → Obj → Obj
+units_grown more o = with_units o (units_within o ++ more)
+
+unfoldable units_cut : ℕ → Obj → Obj
+units_cut count o = with_units o (take count (units_within o))
+
+grown-is : (os : List Obj) (id : ℕ) (more : List ℕ) → lengthened os id more ≡ changed os id (units_grown more)
+unfolding changed_at units_grown
+grown-is os id more = by (slice_get os id) ∙ changed-is os id (units_grown more) where
+  by : (found : Option Obj) → lengthened_in os id more found ≡ changed_at os id (units_grown more) found
+  by None = refl
+  by (Some o) = refl
+
+cut-is : (os : List Obj) (id count : ℕ) → shortened os id count ≡ changed os id (units_cut count)
+unfolding changed_at units_cut
+cut-is os id count = by (slice_get os id) ∙ changed-is os id (units_cut count) where
+  by : (found : Option Obj) → shortened_in os id count found ≡ changed_at os id (units_cut count) found
+  by None = refl
+  by (Some o) = refl
+
+-- as many units as there were
+cut-back : (o : Obj) (more : List ℕ) (count : ℕ) → option_map length (units_in (Some o)) ≡ Some count → units_cut count (units_grown more o) ≡ o
+unfolding units_grown units_cut
+cut-back (Instance class slots) more count is = refl
+cut-back (Array element slots) more count is = refl
+cut-back (Text units) more count is = refl
+cut-back (Builder units) more count is =
+    let n : count ≡ length units = sym (same_Some (length units) count is) in
+    ap Builder (ap (λ k. take k (units ++ more)) n ∙ take-append-le (length units) units more (omega arith) ∙ take-length units)
+cut-back (Row class slots) more count is = refl
+cut-back (Cap device class) more count is = refl
+
+-- an object that is no builder
+cut-idle : (o : Obj) (count : ℕ) → is_builder (Some o) ≡ false → units_cut count o ≡ o
+unfolding units_cut
+cut-idle (Instance class slots) count is = refl
+cut-idle (Array element slots) count is = refl
+cut-idle (Text units) count is = refl
+cut-idle (Builder units) count is = absurd (true≢false is)
+cut-idle (Row class slots) count is = refl
+cut-idle (Cap device class) count is = refl
+
+grown-idle : (o : Obj) (more : List ℕ) → option_map length (units_in (Some o)) ≡ None → units_grown more o ≡ o
+unfolding units_grown
+grown-idle (Instance class slots) more is = refl
+grown-idle (Array element slots) more is = refl
+grown-idle (Text units) more is = refl
+grown-idle (Builder units) more is = absurd (none-some (length units) (sym is))
+grown-idle (Row class slots) more is = refl
+grown-idle (Cap device class) more is = refl
+
+cut-off : (os : List Obj) (id : ℕ) (more : List ℕ) (count : ℕ) → option_map length (units_of os id) ≡ Some count → shortened (lengthened os id more) id count ≡ os
+cut-off os id more count is =
+    cut-is (lengthened os id more) id count ∙ (ap (λ ps. changed ps id (units_cut count)) (grown-is os id more) ∙
+    changed-twice os id (units_grown more) (units_cut count)
+    (λ o found. cut-back o more count (sym (ap (λ p. option_map length (units_in p)) found) ∙ is)))
+
+pub no_builder_shortened : (os : List Obj) (id count : ℕ) → is_builder (slice_get os id) ≡ false → os ≡ shortened os id count
+no_builder_shortened os id count is =
+    sym (cut-is os id count ∙ changed-idle os id (units_cut count) (λ o found. cut-idle o count (sym (ap is_builder found) ∙ is)))
+
+none-grown : (os : List Obj) (id : ℕ) (more : List ℕ) → option_map length (units_of os id) ≡ None → lengthened os id more ≡ os
+none-grown os id more is =
+    grown-is os id more ∙ changed-idle os id (units_grown more)
+    (λ o found. grown-idle o more (sym (ap (λ p. option_map length (units_in p)) found) ∙ is))
+
+pub as_many_lengthened : (os : List Obj) (id : ℕ) (more : List ℕ) → length (lengthened os id more) ≡ length os
+as_many_lengthened os id more = ap length (grown-is os id more) ∙ length-changed os id (units_grown more)
+
+pub as_many_shortened : (os : List Obj) (id count : ℕ) → length (shortened os id count) ≡ length os
+as_many_shortened os id count = ap length (cut-is os id count) ∙ length-changed os id (units_cut count)
+
+-- where the units of a builder are known
+pub lengthened_is : (os : List Obj) (id : ℕ) (us more : List ℕ) → units_of os id ≡ Some us → lengthened os id more ≡ with_units_at os id (us ++ more)
+lengthened_is os id us more is = by (slice_get os id) is where
+  by : (found : Option Obj) → units_in found ≡ Some us → lengthened_in os id more found ≡ with_units_in os id (us ++ more) found
+  by None e = refl
+  by (Some (Instance class slots)) e = refl
+  by (Some (Array element slots)) e = refl
+  by (Some (Text units)) e = refl
+  by (Some (Builder units)) e = ap (λ vs. slice_set os id (Builder (vs ++ more))) (same_Some units us e)
+  by (Some (Row class slots)) e = refl
+  by (Some (Cap device class)) e = refl
+
+pub shortened_is : (os : List Obj) (id : ℕ) (us : List ℕ) (count : ℕ) → units_of os id ≡ Some us → shortened os id count ≡ with_units_at os id (take count us)
+shortened_is os id us count is = by (slice_get os id) is where
+  by : (found : Option Obj) → units_in found ≡ Some us → shortened_in os id count found ≡ with_units_in os id (take count us) found
+  by None e = refl
+  by (Some (Instance class slots)) e = refl
+  by (Some (Array element slots)) e = refl
+  by (Some (Text units)) e = refl
+  by (Some (Builder units)) e = ap (λ vs. slice_set os id (Builder (take count vs))) (same_Some units us e)
+  by (Some (Row class slots)) e = refl
+  by (Some (Cap device class)) e = refl
+
 -- ---- the first objects
+
+first-cut : (n : ℕ) (os : List Obj) (id count : ℕ) → take n (shortened os id count) ≡ shortened (take n os) id count
+first-cut n os id count = ap (take n) (cut-is os id count) ∙ (take-changed n os id (units_cut count) ∙ sym (cut-is (take n os) id count))
+
+first-grown-left : (n : ℕ) (os : List Obj) (id : ℕ) (more : List ℕ) → n ≤ id → take n (lengthened os id more) ≡ take n os
+first-grown-left n os id more le = ap (take n) (grown-is os id more) ∙ take-changed_past n os id (units_grown more) le
 
 first-with : (n : ℕ) (os : List Obj) (id at : ℕ) (v : Value) → take n (with_slot os id at v) ≡ with_slot (take n os) id at v
 first-with n os id at v = ap (take n) (slot-is os id at v) ∙ (take-changed n os id (slot_put at v) ∙ sym (slot-is (take n os) id at v))
@@ -205,6 +309,7 @@ first-units-left n os id us le = ap (take n) (units-are os id us) ∙ take-chang
 first-undone : (n : ℕ) (w : World) (j : Saved) → with_first n (undone w j) ≡ undone (with_first n w) j
 first-undone n w (Slot id at old) = ap (λ os. record w { objects = os }) (first-with n w.objects id.0 at old)
 first-undone n w (Units id old) = ap (λ os. record w { objects = os }) (first-with-units n w.objects id.0 old)
+first-undone n w (Length id count) = ap (λ os. record w { objects = os }) (first-cut n w.objects id.0 count)
 first-undone n w (Variable at old) = refl
 
 first-all : (n : ℕ) (w : World) (js : List Saved) → with_first n (all_undone w js) ≡ all_undone (with_first n w) js
@@ -258,6 +363,23 @@ units-kept w id us t = by (units_of w.objects id.0) refl where
   by None is = ap (λ os. before (record w { objects = os }) t) (no-units w.objects id.0 us is)
   by (Some old) is = old-one old is (nat_lt id.0 t.made_before) refl
 
+length-kept : (w : World) (id : ObjId) (more : List ℕ) (t : Turn) →
+    before (record w { objects = lengthened w.objects id.0 more }) (length_noted id (option_map length (units_of w.objects id.0)) t) ≡ before w t
+length-kept w id more t = by (option_map length (units_of w.objects id.0)) refl where
+  old-one : (count : ℕ) → option_map length (units_of w.objects id.0) ≡ Some count → (b : Bool) → nat_lt id.0 t.made_before ≡ b →
+      before (record w { objects = lengthened w.objects id.0 more }) (length_noted id (Some count) t) ≡ before w t
+  old-one count is true lt = rw lt
+      (ap (with_first t.made_before) (last_first (record w { objects = lengthened w.objects id.0 more }) t.journal (Length id count) ∙
+      ap (λ os. all_undone (record w { objects = os }) t.journal) (cut-off w.objects id.0 more count is)))
+  old-one count is false ge = rw ge
+      (same-first (record w { objects = lengthened w.objects id.0 more }) w t
+      (ap (λ os. record w { objects = os }) (first-grown-left t.made_before w.objects id.0 more (grind (arith, nat_tests)))))
+
+  by : (found : Option ℕ) → option_map length (units_of w.objects id.0) ≡ found →
+      before (record w { objects = lengthened w.objects id.0 more }) (length_noted id found t) ≡ before w t
+  by None is = ap (λ os. before (record w { objects = os }) t) (none-grown w.objects id.0 more is)
+  by (Some count) is = old-one count is (nat_lt id.0 t.made_before) refl
+
 variable-kept : (w : World) (at : ℕ) (v : Value) (t : Turn) →
     before (record w { statics = slice_set w.statics at v }) (variable_noted at (slice_get w.statics at) t) ≡ before w t
 variable-kept w at v t = by (slice_get w.statics at) refl where
@@ -278,6 +400,12 @@ kept_by_units c id us = by c.turn refl where
   by : (turn : Option Turn) → c.turn ≡ turn → world_before (with_units_written c id us) ≡ world_before c
   by None is = rw is refl
   by (Some t) is = rw is (ap Some (units-kept c.world id us t))
+
+pub kept_by_length : (c : Contents) (id : ObjId) (more : List ℕ) → world_before (with_units_added c id more) ≡ world_before c
+kept_by_length c id more = by c.turn refl where
+  by : (turn : Option Turn) → c.turn ≡ turn → world_before (with_units_added c id more) ≡ world_before c
+  by None is = rw is refl
+  by (Some t) is = rw is (ap Some (length-kept c.world id more t))
 
 pub kept_by_variable : (c : Contents) (at : ℕ) (v : Value) → world_before (with_static_written c at v) ≡ world_before c
 kept_by_variable c at v = by c.turn refl where

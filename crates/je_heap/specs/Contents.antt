@@ -5,7 +5,8 @@ use Rattle.je_core.specs.declared.value.ObjId.{ObjId}
 use Rattle.je_core.specs.declared.value.Value.{Value}
 use Rattle.je_java.specs.World.{World, slot_of, units_of, with_slot, with_units_at}
 use Rattle.std.specs.Prelude.{slice_get, slice_set}
-use Rattle.je_heap.specs.Turns.{Turn, before, slot_noted, units_noted, variable_noted}
+use Rattle.je_heap.specs.Growing.{lengthened}
+use Rattle.je_heap.specs.Turns.{Turn, before, length_noted, slot_noted, units_noted, variable_noted}
 
 -- a world, the turn that has begun, and how many writes the last one that ended had noted
 pub record Contents : Type 0 where
@@ -31,6 +32,13 @@ abbrev pub with_units_written : Contents → ObjId → List ℕ → Contents
 with_units_written contents id units = record contents {
   world = record contents.world { objects = with_units_at contents.world.objects id.0 units };
   turn = option_map (units_noted id (units_of contents.world.objects id.0)) contents.turn;
+}
+
+-- behind a builder's units
+abbrev pub with_units_added : Contents → ObjId → List ℕ → Contents
+with_units_added contents id more = record contents {
+  world = record contents.world { objects = lengthened contents.world.objects id.0 more };
+  turn = option_map (length_noted id (option_map length (units_of contents.world.objects id.0))) contents.turn;
 }
 
 -- and to a class variable

@@ -3,8 +3,9 @@ use Rattle.std.specs.Prelude.{ℕ, List, [], ◌∷◌, ◌++◌, take, Option, 
 use Rattle.je_core.specs.declared.value.ObjId.{ObjId}
 use Rattle.je_core.specs.declared.value.Value.{Value}
 use Rattle.je_java.specs.World.{World, with_slot, with_units_at}
+use Rattle.je_heap.specs.Growing.{shortened}
 use Rattle.je_heap.specs.declared.turn.Saved.{Saved}
-use Rattle.je_heap.specs.declared.turn.Saved.TheVariants.{Slot, Variable, Units}
+use Rattle.je_heap.specs.declared.turn.Saved.TheVariants.{Slot, Variable, Units, Length}
 
 -- `made_before` is how many objects there were when it began
 pub record Turn : Type 0 where
@@ -27,6 +28,11 @@ abbrev pub units_noted : ObjId → Option (List ℕ) → Turn → Turn
 units_noted id None turn = turn
 units_noted id (Some old) turn = if nat_lt id.0 turn.made_before then noted (Units id old) turn else turn
 
+-- of units that are put behind a builder's own, how many those are
+abbrev pub length_noted : ObjId → Option ℕ → Turn → Turn
+length_noted id None turn = turn
+length_noted id (Some count) turn = if nat_lt id.0 turn.made_before then noted (Length id count) turn else turn
+
 abbrev pub variable_noted : ℕ → Option Value → Turn → Turn
 variable_noted at None turn = turn
 variable_noted at (Some old) turn = noted (Variable at old) turn
@@ -35,6 +41,7 @@ variable_noted at (Some old) turn = noted (Variable at old) turn
 abbrev pub undone : World → Saved → World
 undone world (Slot id at old) = record world { objects = with_slot world.objects id.0 at old }
 undone world (Units id old) = record world { objects = with_units_at world.objects id.0 old }
+undone world (Length id count) = record world { objects = shortened world.objects id.0 count }
 undone world (Variable at old) = record world { statics = slice_set world.statics at old }
 
 -- that in which all of a journal does, the latest first

@@ -1,13 +1,15 @@
 // Objects by number, their slots in pages, the units of each text and builder by themselves.
 
-ghost use Rattle.std.specs.Prelude.{◌≡◌, [], ◌∷◌, ◌++◌, IsSome, OnOk, OnErr, Some, flat_map, length, option_map, slice_get, take};
+ghost use Rattle.std.specs.Prelude.{◌≡◌, [], ◌∷◌, ◌++◌, IfOk, IsSome, OnOk, OnErr, Some, flat_map, length, option_map, slice_get, take};
 ghost use Rattle.je_java.specs.World.{slot_of, slots_of, units_of, with_slot, with_units_at};
+ghost use Rattle.je_heap.specs.Growing.{lengthened, shortened};
 ghost use Rattle.je_heap.specs.Shape.{IsBuilder, is_builder as is_builder_in, shape_at};
 ghost use Rattle.je_heap.specs.way.Laid.{MayHave, object_of, text_count};
 ghost use Rattle.je_pages.specs.Paging.{page_of};
 
 use crate::entry::{Entry, Kind};
 use crate::shape::Shape;
+use crate::text::Text;
 use je_core::{Memory, Obj, ObjId, Slots, Units, Value};
 use je_pages::Pages;
 use std::alloc::Global;
@@ -22,7 +24,7 @@ pub struct Objects {
     /// The slots of all objects, one object's behind those of the one before.
     slots: Pages,
     /// The units of each text and builder.
-    texts: Vec<Units>,
+    texts: Vec<Text>,
 }
 
 impl Model for Objects {
@@ -107,8 +109,9 @@ impl Objects {
     {
         let first = self.slots.len();
         let text = self.texts.len();
+        let own = Text::of(self.alloc, units.as_slice())?;
         self.entries.reserve(1)?;
-        self.texts.push(units)?;
+        self.texts.push(own)?;
         let _ = self.entries.push(Entry {
             kind,
             first,
@@ -192,13 +195,39 @@ impl Objects {
 
     /// Puts units into a builder in place of its own, and answers those.
     #[tactic(auto, using(crate::proofs::Texts::same_count))]
-    pub fn put_units(&mut self, id: ObjId, units: Units) -> Units
+    pub fn put_units(&mut self, id: ObjId, units: Text) -> Text
         requires { IsBuilder self.old id.0 }
         ensures old { Some result ≡ units_of self.old id.0 }
         ensures new { self.new ≡ with_units_at self.old id.0 units }
     {
         let entry = self.entries[id.0 as usize];
         mem::replace(&mut self.texts[entry.text], units)
+    }
+
+    /// Puts units behind those of a builder, and answers how many it had.
+    #[tactic(auto, using(crate::proofs::Texts::same_count))]
+    pub fn lengthen(&mut self, id: ObjId, more: &[u16]) -> Result<usize, Memory>
+        requires { IsBuilder self.old id.0 }
+        ensures old { IfOk result
+            (λ count. Some count ≡ option_map length (units_of self.old id.0)) }
+        ensures ok { OnOk result (self.new ≡ lengthened self.old id.0 more.now) }
+        ensures err { OnErr result (self.new ≡ self.old) }
+    {
+        let entry = self.entries[id.0 as usize];
+        let text = &mut self.texts[entry.text];
+        let count = text.len();
+        text.lengthen(more)?;
+        Ok(count)
+    }
+
+    /// Keeps so many units of a builder from the front, or all where there are no more.
+    #[tactic(auto, using(crate::proofs::Texts::same_count))]
+    pub fn shorten(&mut self, id: ObjId, count: usize)
+        requires { IsBuilder self.old id.0 }
+        ensures { self.new ≡ shortened self.old id.0 count }
+    {
+        let entry = self.entries[id.0 as usize];
+        self.texts[entry.text].shorten(count);
     }
 
     /// Keeps so many objects from the front, or all where there are no more.

@@ -1,13 +1,15 @@
 // What writes have replaced since a turn began.
 
-ghost use Rattle.std.specs.Prelude.{◌≡◌, ◌∷◌, ◌++◌, OnOk, OnErr, Some, length, nat_lt};
+ghost use Rattle.std.specs.Prelude.{◌≡◌, ◌∷◌, ◌++◌, OnOk, OnErr, Some, length, nat_lt, option_map};
 ghost use Rattle.je_java.specs.World.{units_of, with_units_at};
+ghost use Rattle.je_heap.specs.Growing.{lengthened};
 ghost use Rattle.je_heap.specs.Shape.{IsBuilder};
-ghost use Rattle.je_heap.specs.Turns.{slot_noted, turn_from, units_noted, variable_noted};
+ghost use Rattle.je_heap.specs.Turns.{length_noted, slot_noted, turn_from, units_noted, variable_noted};
 ghost use Rattle.je_heap.specs.way.Journals.{LeavesLast};
 
 use crate::objects::Objects;
-use je_core::{Memory, ObjId, Units, Value};
+use crate::text::Text;
+use je_core::{Memory, ObjId, Value};
 use std::alloc::Global;
 use std::marker::Model;
 
@@ -17,7 +19,9 @@ pub enum Saved {
     /// The old value of a slot of an object.
     Slot(ObjId, u64, Value),
     /// The old units of a builder.
-    Units(ObjId, Units),
+    Units(ObjId, Text),
+    /// How many units a builder had before others were put behind them.
+    Length(ObjId, usize),
     /// The old value of a class variable.
     Variable(u32, Value),
 }
@@ -81,12 +85,7 @@ impl Turn {
     }
 
     /// Puts units into a builder in place of its own, and notes those, where the builder was there before the turn.
-    pub fn put_units(
-        &mut self,
-        objects: &mut Objects,
-        id: ObjId,
-        units: Units,
-    ) -> Result<(), Memory>
+    pub fn put_units(&mut self, objects: &mut Objects, id: ObjId, units: Text) -> Result<(), Memory>
         requires { IsBuilder objects.old id.0 }
         ensures ok { OnOk result (self.new ≡ units_noted id (units_of objects.old id.0) self.old) }
         ensures put { OnOk result (objects.new ≡ with_units_at objects.old id.0 units) }
@@ -99,6 +98,25 @@ impl Turn {
             let _ = self.journal.push(Saved::Units(id, old));
         } else {
             let _ = objects.put_units(id, units);
+        }
+        Ok(())
+    }
+
+    /// Puts units behind those of a builder, and notes how many it had, where it was there before the turn.
+    pub fn lengthen(&mut self, objects: &mut Objects, id: ObjId, more: &[u16]) -> Result<(), Memory>
+        requires { IsBuilder objects.old id.0 }
+        ensures ok { OnOk result
+            (self.new ≡ length_noted id (option_map length (units_of objects.old id.0)) self.old) }
+        ensures put { OnOk result (objects.new ≡ lengthened objects.old id.0 more.now) }
+        ensures err { OnErr result (self.new ≡ self.old) }
+        ensures left { OnErr result (objects.new ≡ objects.old) }
+    {
+        if self.was_there(id) {
+            self.journal.reserve(1)?;
+            let count = objects.lengthen(id, more)?;
+            let _ = self.journal.push(Saved::Length(id, count));
+        } else {
+            objects.lengthen(id, more)?;
         }
         Ok(())
     }

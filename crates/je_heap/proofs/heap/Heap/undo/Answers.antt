@@ -4,7 +4,7 @@ use Rattle.std.proofs.lemmas.List.{set_past}
 use Rattle.je_core.specs.declared.object.Obj.{Obj}
 use Rattle.je_core.specs.declared.value.Value.{Value}
 use Rattle.je_java.specs.World.{World}
-use Rattle.je_heap.proofs.Journals.{not_found, no_builder_left}
+use Rattle.je_heap.proofs.Journals.{not_found, no_builder_left, no_builder_shortened}
 use Rattle.je_heap.proofs.heap.Heap.undo.Goals as goal
 
 pub returns-else-is_some-clause-world : goal.returns-else-is_some-clause-world
@@ -18,6 +18,12 @@ returns-else-is_builder-clause-world c =
     let none = sym c.is_builder.ensures ∙ c.if-is_builder.false in
     let with_objects : List Obj → World = λ os. record { objects = os; statics = c.self.inside.statics } in
     rw c.in-Units.is (rw (sym c.self.view_is) (ap with_objects (no_builder_left c.self.inside.objects c.in-Units.id.0 c.in-Units.old none)))
+
+pub returns-else-is_builder-2-clause-world : goal.returns-else-is_builder-2-clause-world
+returns-else-is_builder-2-clause-world c =
+    let none = sym c.is_builder-in-Length.ensures ∙ c.if-is_builder-2.false in
+    let with_objects : List Obj → World = λ os. record { objects = os; statics = c.self.inside.statics } in
+    rw c.in-Length.is (rw (sym c.self.view_is) (ap with_objects (no_builder_shortened c.self.inside.objects c.in-Length.id.0 c.in-Length.count none)))
 
 pub returns-else-at-len-clause-world : goal.returns-else-at-len-clause-world
 returns-else-at-len-clause-world c =
