@@ -3,7 +3,7 @@
 ghost use Rattle.std.specs.Prelude.{◌≡◌, ◌≤◌, ◌+◌, IfOk, pos};
 ghost use Rattle.std.specs.Int.{w32, int_wrap};
 ghost use Rattle.je_java.specs.Steps.{yields, seq, put_slot};
-ghost use Rattle.je_java.specs.Arrays.{place_within, storable as storable_in, length_of as the_length_of, read_element as the_read_element, write_element as the_write_element};
+ghost use Rattle.je_java.specs.Arrays.{storable as storable_in, length_of as the_length_of, read_element as the_read_element, write_element as the_write_element};
 ghost use Rattle.machine_parts.specs.Ways.{height, gives};
 ghost use Rattle.machine_parts.specs.way.Clauses.{GoesToValue, Stores};
 
@@ -14,6 +14,7 @@ use je_classes::is_subtype;
 use je_core::{Memory, ObjId, Program, Ty, Value};
 use je_heap::Heap;
 use je_java::Extent;
+pub use object_parts::values::place_in;
 use std::alloc::Global;
 
 // A count as an int, which takes its lowest bits.
@@ -22,17 +23,6 @@ fn wrapped(count: u64) -> i32
     ensures { result ≡ int_wrap w32 (pos count) }
 {
     ((count % (1 << 32)) as u32).cast_signed()
-}
-
-/// The place of an index among so many elements; None where there is none.
-pub fn place_in(count: u64, index: i32) -> Option<u64>
-    ensures { result ≡ place_within count index }
-{
-    if index < 0 {
-        return None;
-    }
-    let at = index as u64;
-    if at < count { Some(at) } else { None }
 }
 
 /// How many elements an array has.

@@ -1,7 +1,6 @@
 // Reads and writes of fields and locals.
 
-ghost use Rattle.std.specs.Prelude.{◌≡◌, ◌≤◌, ◌<◌, ◌+◌, ◌^◌, IfOk, IsSome};
-ghost use Rattle.je_java.specs.World.{slot_of};
+ghost use Rattle.std.specs.Prelude.{◌≡◌, ◌≤◌, ◌+◌, IfOk};
 ghost use Rattle.machine_parts.specs.way.Clauses.{GoesToValue, GoesAheadIn};
 ghost use Rattle.je_java.specs.Steps.{put_local, read_field as the_read_field, write_field as the_write_field};
 ghost use Rattle.machine_parts.specs.Ways.{valued, height, gives};
@@ -9,23 +8,9 @@ ghost use Rattle.machine_parts.specs.Ways.{valued, height, gives};
 use crate::class::field_slot;
 use crate::frame::{Context, Control, Env};
 use crate::make::raise_null_pointer;
-use je_core::{ClassId, Memory, ObjId, Program, Value};
+use je_core::{ClassId, Memory, Program, Value};
 use je_heap::Heap;
-
-/// The value in a slot of an object; None exactly where there is no such object or no such slot.
-pub fn slot(heap: &Heap, object: ObjId, at: u128) -> Option<Value>
-    ensures value { result ≡ slot_of heap.now.world.objects object.0 at }
-    ensures bound { IsSome result → at < 2 ^ 64 }
-{
-    let Some(shape) = heap.shape(object) else {
-        return None;
-    };
-    if at < shape.len as u128 {
-        heap.slot(object, at as u64)
-    } else {
-        None
-    }
-}
+pub use object_parts::slots::slot;
 
 /// The value of a field of an object.
 pub fn read_field(

@@ -11,8 +11,9 @@ pub mod frame;
 pub mod kind;
 pub mod make;
 pub mod reply;
-pub mod shape;
 pub mod stack;
 pub mod text;
 pub mod value;
 pub mod variable;
+
+pub use object_parts::shape;

@@ -72,6 +72,7 @@ pub fn instance(
     ensures apart { IfOk result (MakesApart program.now class
         context.old heap.old context.new heap.new) }
     ensures frames { context.new.frames ≡ context.old.frames }
+    ensures env { context.new.env ≡ context.old.env }
     ensures units { context.new.units ≤ context.old.units }
     ensures begun { context.new.begun ≡ context.old.begun }
 {

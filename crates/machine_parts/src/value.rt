@@ -5,7 +5,7 @@ ghost use Rattle.machine_parts.specs.way.Clauses.{IsValue, GoesToValue};
 ghost use Rattle.machine_parts.specs.Ways.{height, gives};
 ghost use Rattle.je_core.specs.View.{view};
 ghost use Rattle.je_core.specs.declared.value.Value.TheVariants.{Bool as Truth};
-ghost use Rattle.je_java.specs.Equality.{same_reference as the_same_reference, equality as the_equality, operated as the_operated};
+ghost use Rattle.je_java.specs.Equality.{equality as the_equality, operated as the_operated};
 ghost use Rattle.je_java.specs.Steps.{binary as the_binary, unary as the_unary, convert as the_convert, branch as the_branch, ret, constant as the_constant};
 
 use crate::frame::{Context, Control};
@@ -13,20 +13,8 @@ use crate::make::raise_arithmetic;
 use je_arith::{Outcome, try_binary, try_convert, try_unary};
 use je_core::{BinOp, Expr, Memory, Program, Ty, UnOp, Value};
 use je_heap::Heap;
+use object_parts::values::same_reference;
 use std::rc::Rc;
-
-// Whether two references are to one object, or both null; none where one of the values is no reference.
-fn same_reference(a: Value, b: Value) -> Option<bool>
-    ensures { result ≡ the_same_reference a b }
-{
-    match (a, b) {
-        (Value::Ref(a), Value::Ref(b)) => Some(a.0 == b.0),
-        (Value::Ref(_), Value::Null) => Some(false),
-        (Value::Null, Value::Ref(_)) => Some(false),
-        (Value::Null, Value::Null) => Some(true),
-        _ => None,
-    }
-}
 
 fn equality(op: BinOp, same: bool) -> Outcome
     ensures { result ≡ the_equality op same }

@@ -1,15 +1,10 @@
 -- The fields of classes on the way up from one.
-use Rattle.std.specs.Prelude.{List, [], ◌∷◌, ◌++◌, map, filter, Option}
+use Rattle.std.specs.Prelude.{List, [], ◌∷◌, ◌++◌, map}
 use Rattle.je_core.specs.Defaults.{default_of}
 use Rattle.je_core.specs.declared.types.ClassId.{ClassId}
 use Rattle.je_core.specs.declared.value.Value.{Value}
 use Rattle.je_core.specs.Core.{CoreField, CoreProgram}
-use Rattle.je_classes.specs.Fields.{fields_in}
-use Rattle.je_classes.specs.Hierarchy.{class_at}
-use Rattle.je_classes.specs.Slots.{is_instance}
-
-abbrev pub instance_fields : CoreProgram → ClassId → List CoreField
-instance_fields program class = filter is_instance (fields_in (class_at program class))
+use Rattle.object_parts.specs.way.Slots.{instance_fields}
 
 -- the instance fields of classes, of the last one first
 abbrev pub fields_along : CoreProgram → List ClassId → List CoreField

@@ -7,7 +7,8 @@ use Rattle.je_core.specs.View.{field_view, program_view}
 use Rattle.je_classes.specs.Fields.{fields_in}
 use Rattle.je_classes.specs.Hierarchy.{class_at}
 use Rattle.je_classes.specs.Slots.{is_instance}
-use Rattle.machine_parts.specs.way.Slots.{instance_fields, fields_along, defaults}
+use Rattle.object_parts.specs.way.Slots.{instance_fields}
+use Rattle.machine_parts.specs.way.Slots.{fields_along, defaults}
 use Rattle.machine_parts.proofs.Slots.{along_back}
 use Rattle.machine_parts.proofs.class.slots_along.Goals as goal
 

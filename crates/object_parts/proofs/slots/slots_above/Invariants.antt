@@ -1,7 +1,7 @@
 use Rattle.std.proofs.Common.{◌≡◌, ◌≤◌, ◌+◌, ◌*◌, ◌^◌, length}
 use Rattle.je_core.specs.View.{program_view}
 use Rattle.je_classes.specs.Slots.{fields_upwards, slot_fields}
-use Rattle.machine_parts.proofs.class.slots_above.Given as goal
+use Rattle.object_parts.proofs.slots.slots_above.Given as goal
 
 abbrev pub invariant-loop-left : goal.invariant-loop-left
 invariant-loop-left l = (l.count + length (fields_upwards (program_view l.program) l.left l.above) ≡ length (slot_fields (program_view l.program) l.fn.superclass))

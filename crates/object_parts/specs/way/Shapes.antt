@@ -1,12 +1,12 @@
 -- Of which class and type an object of a shape is.
-use Rattle.std.specs.Prelude.{Option, Some, None}
+use Rattle.std.specs.Prelude.{ℕ, Option, Some, None}
 use Rattle.je_core.specs.declared.types.Base.{Base}
 use Rattle.je_core.specs.declared.types.Base.TheVariants.{Class}
 use Rattle.je_core.specs.declared.types.ClassId.{ClassId}
 use Rattle.je_core.specs.declared.types.Ty.{Ty}
 use Rattle.je_heap.specs.declared.shape.Shape.{Shape}
 use Rattle.je_heap.specs.declared.shape.Tag.{Tag}
-use Rattle.je_heap.specs.declared.shape.Tag.TheVariants.{Array}
+use Rattle.je_heap.specs.declared.shape.Tag.TheVariants.{Array, Row}
 use Rattle.je_java.specs.declared.array.Extent.{Extent}
 use Rattle.je_java.specs.World.{array_type}
 
@@ -37,3 +37,11 @@ extent_by_tag _ shape = None
 abbrev pub extent_by : Option Shape → Option Extent
 extent_by None = None
 extent_by (Some shape) = extent_by_tag shape.tag shape
+
+abbrev pub count_by_tag : Tag → ℕ → Option ℕ
+count_by_tag Row count = Some count
+count_by_tag _ count = None
+
+abbrev pub count_by_shape : Option Shape → Option ℕ
+count_by_shape None = None
+count_by_shape (Some shape) = count_by_tag shape.tag shape.len

@@ -1,5 +1,5 @@
-use Rattle.machine_parts.proofs.Fields.{slot_found, no_slot}
-use Rattle.machine_parts.proofs.class.slot_in.Goals as goal
+use Rattle.object_parts.proofs.Fields.{slot_found, no_slot}
+use Rattle.object_parts.proofs.slots.slot_in.Goals as goal
 
 pub returns-then-field : goal.returns-then-field
 returns-then-field c =

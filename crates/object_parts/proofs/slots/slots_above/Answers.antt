@@ -5,8 +5,8 @@ use Rattle.std.proofs.lemmas.List.Sums.{count_by-le-length}
 use Rattle.je_core.specs.View.{class_view, field_view, program_view}
 use Rattle.je_classes.specs.Hierarchy.{class_at}
 use Rattle.je_classes.specs.Slots.{is_instance, fields_upwards}
-use Rattle.machine_parts.proofs.Slots.{size_step}
-use Rattle.machine_parts.proofs.class.slots_above.Goals as goal
+use Rattle.object_parts.proofs.Upwards.{size_step}
+use Rattle.object_parts.proofs.slots.slots_above.Goals as goal
 
 pub loop-left-preserved : goal.loop-left-preserved
 loop-left-preserved c =
