@@ -1,0 +1,4 @@
+-- What only proofs cite.
+pub mod Elements
+pub mod Opened
+pub mod Receivers
