@@ -2,4 +2,5 @@ pub mod Updates
 pub mod Making
 pub mod Handing
 pub mod Admitting
-pub mod Telling
+pub mod Joining
+pub mod Numbered

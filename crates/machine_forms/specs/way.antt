@@ -3,3 +3,5 @@ pub mod Making
 pub mod Handing
 pub mod Admitting
 pub mod Updating
+pub mod Running
+pub mod Calling

@@ -1,26 +1,32 @@
 // Calls: a receiver, arguments, and then a method's body.
 
 ghost use Rattle.std.specs.Prelude.{◌≡◌, ◌≤◌, ◌<◌, ◌+◌, ◌^◌, [], IfOk, length, map, drop, MatchOption, IsSome};
-ghost use Rattle.machine_parts.specs.way.Clauses.{BeginsValue, GoesToValue, GoesToValueOf, GoesAhead, NextExpr};
-ghost use Rattle.je_core.specs.View.{view, form_view, views, capture_view, stmt_view_if, method_view};
-ghost use Rattle.je_java.specs.Steps.{bind};
-ghost use Rattle.je_java.specs.Meaning.{run_method, run_virtual, run_instance, run_exact, run_new, construct as the_construct, hand_over as the_hand_over, apply as the_apply, args_of, receiver_of, with_values, adding, call_from as the_call_from, start_call as the_start_call, begin_call as the_begin_call};
+ghost use Rattle.machine_parts.specs.way.Clauses.{BeginsValue, GoesToValue, GoesAhead, GoesAheadOver, NextExpr};
+ghost use Rattle.je_core.specs.Defaults.{default_of};
+ghost use Rattle.je_core.specs.View.{view, form_view, views, capture_view, stmt_view, stmt_view_if, method_view, program_view};
+ghost use Rattle.je_java.specs.Classes.{locals_for as the_locals_for};
+ghost use Rattle.je_java.specs.Steps.{bind, framed};
+ghost use Rattle.je_java.specs.LibraryMembers.{run_library as the_run_library};
+ghost use Rattle.je_java.specs.Meaning.{member_at, run_member as the_run_member, run_virtual, run_instance, run_named as the_run_named, run_exact, run_new, is_maker as the_is_maker, new_instance, construct as the_construct, hand_over as the_hand_over, apply as the_apply, args_of, receiver_of, with_values, adding, call_from as the_call_from, start_call as the_start_call, begin_call as the_begin_call};
 ghost use Rattle.machine_parts.specs.Ways.{built_or, height, gives};
 
 use crate::argument::hand_on;
 use crate::array::{array_from, make_arrays};
 use crate::capture::hand_over;
+use crate::library::{Ran, run_library};
+use class_members::{dispatched, method_at};
 use je_core::{
     Capture, ClassId, Expr, Form, Memory, Method, ObjId, Program, Slots, Stmt, Ty, Value,
 };
 use je_heap::Heap;
-use machine_parts::class::{dispatched, locals_for, method};
+use machine_parts::class::{locals_for, method};
 use machine_parts::frame::{Context, Control, Env, Fetched, Frame, Made};
 use machine_parts::make::{instance, raise_array_index, raise_class_cast, raise_null_pointer};
-use machine_parts::shape::class_of;
+use machine_parts::shape::{receiving_class, type_of};
 use machine_parts::stack::Stack;
 use std::mem;
 use std::rc::Rc;
+use tamed_lib::has_own_makers;
 
 /// A method's body.
 pub fn body(method: &Method) -> Result<Option<Rc<Stmt>>, Memory>
@@ -36,18 +42,18 @@ pub fn body(method: &Method) -> Result<Option<Rc<Stmt>>, Memory>
 fn enter(
     context: &mut Context,
     method: &Method,
+    body: Rc<Stmt>,
     this: Value,
     values: Slots,
     built: Option<Value>,
 ) -> Result<Control, Memory>
     ensures goes { IfOk result (GoesAhead context.old context.new (λ p m k.
-        run_method m (method_view method.now) this values (built_or built k.give) k.out)) }
+        framed (record { this = this; locals = the_locals_for (method_view method.now) values })
+        (default_of (method_view method.now).returns) (m.exec (stmt_view body.value))
+        (built_or built k.give) k.out)) }
     ensures short { IfOk result (λ c. height context.new + gives c ≤ height context.old + 1) }
     ensures begun { context.new.begun ≡ context.old.begun }
 {
-    let Some(body) = body(method)? else {
-        return Ok(Control::Wrong);
-    };
     let locals = locals_for(method, values)?;
     let caller = mem::replace(&mut context.env, Env { this, locals });
     context.frames.push(Frame::Called {
@@ -56,6 +62,55 @@ fn enter(
         built,
     })?;
     Ok(Control::Exec(body))
+}
+
+// Runs a member of the library.
+fn call_library(
+    context: &mut Context,
+    heap: &mut Heap,
+    program: &Program,
+    class: ClassId,
+    at: usize,
+    this: Value,
+    values: Slots,
+    built: Option<Value>,
+) -> Result<Control, Memory>
+    ensures goes { IfOk result (GoesAheadOver program.now
+        context.old heap.old context.new heap.new
+        (λ p m k. the_run_library p class at this values (built_or built k.give) k.out)) }
+    ensures short { IfOk result (λ c. height context.new + gives c ≤ height context.old + 1) }
+    ensures begun { context.new.begun ≡ context.old.begun }
+{
+    match run_library(context, heap, program, class, at, this, &values)? {
+        Ran::Value(value) => Ok(Control::Give(built.unwrap_or(value))),
+        Ran::Throws(exception) => Ok(Control::Throw(exception)),
+        Ran::Spent => Ok(Control::Spent),
+        Ran::Wrong => Ok(Control::Wrong),
+    }
+}
+
+// A method of a number of a class: its body is entered; a member of the library, which has none, is run.
+fn run_member(
+    context: &mut Context,
+    heap: &mut Heap,
+    program: &Program,
+    class: ClassId,
+    at: usize,
+    method: &Method,
+    this: Value,
+    values: Slots,
+    built: Option<Value>,
+) -> Result<Control, Memory>
+    ensures goes { IfOk result (GoesAheadOver program.now
+        context.old heap.old context.new heap.new (λ p m k. the_run_member p m
+        (member_at class at) (method_view method.now) this values (built_or built k.give) k.out)) }
+    ensures short { IfOk result (λ c. height context.new + gives c ≤ height context.old + 1) }
+    ensures begun { context.new.begun ≡ context.old.begun }
+{
+    match body(method)? {
+        Some(body) => enter(context, method, body, this, values, built),
+        None => call_library(context, heap, program, class, at, this, values, built),
+    }
 }
 
 fn call_virtual(
@@ -74,17 +129,23 @@ fn call_virtual(
 {
     match this {
         Value::Ref(object) => {
-            let Some(own) = class_of(heap, object) else {
+            let Some(own) = type_of(heap, object) else {
                 return Ok(Control::Wrong);
             };
             let Some(named) = method(program, class, at) else {
                 return Ok(Control::Wrong);
             };
-            let Some(found) = dispatched(program, own, class, at) else {
+            let Some((by, place)) = dispatched(program, receiving_class(own), class, at as usize)
+            else {
+                return Ok(Control::Wrong);
+            };
+            let Some(found) = method_at(program, by, place) else {
                 return Ok(Control::Wrong);
             };
             match hand_on(context.alloc, heap, program, named, found, &values)? {
-                Some(true) => enter(context, found, this, values, None),
+                Some(true) => run_member(
+                    context, heap, program, by, place, found, this, values, None,
+                ),
                 Some(false) => raise_class_cast(context, heap, program),
                 None => Ok(Control::Wrong),
             }
@@ -98,19 +159,49 @@ fn call_instance(
     context: &mut Context,
     heap: &mut Heap,
     program: &Program,
+    class: ClassId,
+    at: usize,
     method: &Method,
     this: Value,
     values: Slots,
 ) -> Result<Control, Memory>
     ensures goes { IfOk result (GoesToValue program.now context.old heap.old context.new heap.new
-        (λ p m. run_instance p m (method_view method.now) this values)) }
+        (λ p m. run_instance p m (member_at class at) (method_view method.now) this values)) }
     ensures short { IfOk result (λ c. height context.new + gives c ≤ height context.old + 1) }
     ensures begun { context.new.begun ≡ context.old.begun }
 {
     match this {
-        Value::Ref(_) => enter(context, method, this, values, None),
+        Value::Ref(_) => run_member(
+            context, heap, program, class, at, method, this, values, None,
+        ),
         Value::Null => raise_null_pointer(context, heap, program),
         _ => Ok(Control::Wrong),
+    }
+}
+
+// A method on a receiver; a static one drops it.
+fn run_named(
+    context: &mut Context,
+    heap: &mut Heap,
+    program: &Program,
+    class: ClassId,
+    at: usize,
+    method: &Method,
+    this: Value,
+    values: Slots,
+) -> Result<Control, Memory>
+    ensures goes { IfOk result (GoesToValue program.now context.old heap.old context.new heap.new
+        (λ p m. the_run_named p m (member_at class at) (method_view method.now) this values)) }
+    ensures short { IfOk result (λ c. height context.new + gives c ≤ height context.old + 1) }
+    ensures begun { context.new.begun ≡ context.old.begun }
+{
+    if method.flags.is_static {
+        let this = Value::Null;
+        run_member(
+            context, heap, program, class, at, method, this, values, None,
+        )
+    } else {
+        call_instance(context, heap, program, class, at, method, this, values)
     }
 }
 
@@ -131,32 +222,40 @@ fn call_exact(
     let Some(method) = method(program, class, at) else {
         return Ok(Control::Wrong);
     };
-    if method.flags.is_static {
-        enter(context, method, Value::Null, values, None)
-    } else {
-        call_instance(context, heap, program, method, this, values)
-    }
+    let at = at as usize;
+    run_named(context, heap, program, class, at, method, this, values)
 }
 
 // The constructor of an object that was made for it.
 fn construct(
     context: &mut Context,
+    heap: &mut Heap,
     program: &Program,
     class: ClassId,
     at: u32,
     values: Slots,
     object: ObjId,
 ) -> Result<Control, Memory>
-    ensures goes { IfOk result (GoesToValueOf program.now context.old context.new
+    ensures goes { IfOk result (GoesToValue program.now context.old heap.old context.new heap.new
         (λ p m. the_construct p m class at values object)) }
     ensures short { IfOk result (λ c. height context.new + gives c ≤ height context.old + 1) }
     ensures begun { context.new.begun ≡ context.old.begun }
 {
     let this = Value::Ref(object);
-    match method(program, class, at) {
-        Some(constructor) => enter(context, constructor, this, values, Some(this)),
-        None => Ok(Control::Wrong),
-    }
+    let Some(constructor) = method(program, class, at) else {
+        return Ok(Control::Wrong);
+    };
+    run_member(
+        context,
+        heap,
+        program,
+        class,
+        at as usize,
+        constructor,
+        this,
+        values,
+        Some(this),
+    )
 }
 
 // The hidden fields of a new object, and then its constructor.
@@ -177,10 +276,44 @@ fn begin_object(
     ensures begun { context.new.begun ≡ context.old.begun }
 {
     match hand_over(heap, program, &context.env, captures, object)? {
-        Fetched::Value(_) => construct(context, program, class, at, values, object),
+        Fetched::Value(_) => construct(context, heap, program, class, at, values, object),
         Fetched::Null => raise_null_pointer(context, heap, program),
         Fetched::Outside => raise_array_index(context, heap, program),
         Fetched::Wrong => Ok(Control::Wrong),
+    }
+}
+
+// A new instance, its hidden fields, and then its constructor.
+fn call_new_instance(
+    context: &mut Context,
+    heap: &mut Heap,
+    program: &Program,
+    class: ClassId,
+    at: u32,
+    captures: &[Capture],
+    values: Slots,
+) -> Result<Control, Memory>
+    ensures goes { IfOk result (GoesToValue program.now context.old heap.old context.new heap.new
+        (λ p m. new_instance p m class at (map capture_view captures.now) values)) }
+    ensures short { IfOk result (λ c. height context.new + gives c ≤ height context.old + 1) }
+    ensures begun { context.new.begun ≡ context.old.begun }
+{
+    match instance(context, heap, program, class)? {
+        Made::Object(object) => begin_object(
+            context, heap, program, class, at, captures, values, object,
+        ),
+        Made::Spent => Ok(Control::Spent),
+        Made::Wrong => Ok(Control::Wrong),
+    }
+}
+
+// Whether it is a constructor of the library that makes its object itself.
+fn is_maker(program: &Program, class: ClassId, at: u32) -> bool
+    ensures { result ≡ the_is_maker (program_view program.now) class at }
+{
+    match method(program, class, at) {
+        Some(constructor) => constructor.body.is_none() && has_own_makers(class),
+        None => false,
     }
 }
 
@@ -198,12 +331,20 @@ fn call_new(
     ensures short { IfOk result (λ c. height context.new + gives c ≤ height context.old + 1) }
     ensures begun { context.new.begun ≡ context.old.begun }
 {
-    match instance(context, heap, program, class)? {
-        Made::Object(object) => begin_object(
-            context, heap, program, class, at, captures, values, object,
-        ),
-        Made::Spent => Ok(Control::Spent),
-        Made::Wrong => Ok(Control::Wrong),
+    if is_maker(program, class, at) {
+        let place = at as usize;
+        call_library(
+            context,
+            heap,
+            program,
+            class,
+            place,
+            Value::Null,
+            values,
+            None,
+        )
+    } else {
+        call_new_instance(context, heap, program, class, at, captures, values)
     }
 }
 

@@ -1,27 +1,25 @@
 // String concatenation, by `+` and by `+=`.
 
-ghost use Rattle.std.specs.Prelude.{◌≡◌, ◌≤◌, ◌+◌, ◌++◌, [], IfOk, length};
+ghost use Rattle.std.specs.Prelude.{◌≡◌, ◌≤◌, ◌+◌, ◌++◌, IfOk, length};
 ghost use Rattle.je_core.specs.Core.{Concat as ConcatForm};
-ghost use Rattle.je_core.specs.View.{view, method_view};
-ghost use Rattle.je_java.specs.Steps.{bind};
+ghost use Rattle.je_core.specs.View.{view, stmt_view};
+ghost use Rattle.je_java.specs.Steps.{bind, framed};
 ghost use Rattle.je_java.specs.Texts.{units_told as the_units_told, concatenated};
-ghost use Rattle.je_java.specs.Meaning.{eval_form, run_method, to_string as the_to_string};
+ghost use Rattle.je_java.specs.Meaning.{eval_form, to_string as the_to_string};
 ghost use Rattle.machine_forms.specs.way.Updating.{becomes};
 ghost use Rattle.machine_parts.specs.Telling.{summed, text_behind as the_text_behind, texts_of as the_texts_of, told_by};
-ghost use Rattle.machine_parts.specs.Ways.{valued, height, gives};
+ghost use Rattle.machine_parts.specs.Ways.{own_of, valued, height, gives};
 ghost use Rattle.machine_parts.specs.way.Clauses.{BeginsValue, GoesToValue, GoesAhead};
 
-use crate::call::body;
+use crate::library::Ran;
+use crate::telling::{Telling, tell};
 use crate::update::put_by;
 use je_base::Units;
-use je_classes::object_class;
-use je_core::{Expr, Memory, Method, ObjId, Program, Slots, Ty, Value};
+use je_core::{Expr, Memory, ObjId, Program, Stmt, Ty, Value};
 use je_heap::Heap;
-use machine_parts::class::{dispatched, locals_for, method};
 use machine_parts::frame::{Context, Control, Env, Frame, Made, Sum, Told};
-use machine_parts::shape::class_of;
 use machine_parts::stack::Stack;
-use machine_parts::text::{Spelled, make_text, spell, to_string_place, units_told};
+use machine_parts::text::{Spelled, make_text, spell, units_told};
 use std::mem;
 use std::rc::Rc;
 
@@ -104,53 +102,71 @@ fn sum_up(
 // Enters the body of a `toString()`.
 fn enter_telling(
     context: &mut Context,
-    method: &Method,
-    this: Value,
+    own: Env,
+    ends: Value,
+    body: Rc<Stmt>,
     told: Told,
 ) -> Result<Control, Memory>
     ensures goes { IfOk result (GoesAhead context.old context.new (λ p m k.
-        run_method m (method_view method.now) this []
+        framed (own_of own) ends (m.exec (stmt_view body.value))
         (λ v. valued (told_by p m told v) k) k.out)) }
     ensures short { IfOk result (λ c. height context.new + gives c ≤ height context.old + 1) }
     ensures begun { context.new.begun ≡ context.old.begun }
 {
-    let Some(body) = body(method)? else {
-        return Ok(Control::Wrong);
-    };
-    let locals = locals_for(method, Slots::new(context.alloc))?;
-    let caller = mem::replace(&mut context.env, Env { this, locals });
+    let caller = mem::replace(&mut context.env, own);
     context.frames.push(Frame::Telling {
         caller,
-        result: method.returns.default_value(),
+        result: ends,
         told,
     })?;
     Ok(Control::Exec(body))
 }
 
-// The `toString()` of an object, and then what waits for what it gives.
-fn tell(
+// Goes on with what the `toString()` of the right operand gave.
+fn tell_right(
     context: &mut Context,
-    heap: &Heap,
+    heap: &mut Heap,
     program: &Program,
-    object: ObjId,
-    told: Told,
+    sum: Sum,
+    front: Units,
+    value: Value,
 ) -> Result<Control, Memory>
-    ensures goes { IfOk result (GoesToValue program.now context.old heap.now context.new heap.now
-        (λ p m. bind (the_to_string p m object) (told_by p m told))) }
+    ensures goes { IfOk result (GoesToValue program.now context.old heap.old context.new heap.new
+        (λ p m. bind (the_units_told value) (λ back. summed p sum (front ++ back)))) }
     ensures short { IfOk result (λ c. height context.new + gives c ≤ height context.old + 1) }
     ensures begun { context.new.begun ≡ context.old.begun }
 {
-    let class = object_class();
-    let at = to_string_place();
-    let Some(own) = class_of(heap, object) else {
-        return Ok(Control::Wrong);
-    };
-    let Some(_) = method(program, class, at) else {
-        return Ok(Control::Wrong);
-    };
-    match dispatched(program, own, class, at) {
-        Some(found) => enter_telling(context, found, Value::Ref(object), told),
+    match units_told(context.alloc, heap, value)? {
+        Some(back) => sum_up(context, heap, program, sum, front, &back),
         None => Ok(Control::Wrong),
+    }
+}
+
+// The `toString()` of the right operand, and then the new string.
+fn call_right(
+    context: &mut Context,
+    heap: &mut Heap,
+    program: &Program,
+    sum: Sum,
+    front: Units,
+    object: ObjId,
+) -> Result<Control, Memory>
+    ensures goes { IfOk result (GoesToValue program.now context.old heap.old context.new heap.new
+        (λ p m. bind (the_to_string p m object) (λ v.
+        bind (the_units_told v) (λ back. summed p sum (front ++ back))))) }
+    ensures short { IfOk result (λ c. height context.new + gives c ≤ height context.old + 1) }
+    ensures begun { context.new.begun ≡ context.old.begun }
+{
+    match tell(context, heap, program, object)? {
+        Telling::Body { own, ends, body } => {
+            enter_telling(context, own, ends, body, Told::Right { front, sum })
+        }
+        Telling::Library(ran) => match ran {
+            Ran::Value(value) => tell_right(context, heap, program, sum, front, value),
+            Ran::Throws(exception) => Ok(Control::Throw(exception)),
+            Ran::Spent => Ok(Control::Spent),
+            Ran::Wrong => Ok(Control::Wrong),
+        },
     }
 }
 
@@ -170,53 +186,9 @@ fn text_behind(
 {
     match spell(context.alloc, heap, right)? {
         Spelled::Units(back) => sum_up(context, heap, program, sum, front, &back),
-        Spelled::Told(object) => {
-            let told = Told::Right { front, sum };
-            tell(context, heap, program, object, told)
-        }
+        Spelled::Told(object) => call_right(context, heap, program, sum, front, object),
         Spelled::Wrong => Ok(Control::Wrong),
     }
-}
-
-/// Once both operands have values: the left one comes to its text before the right one does. What becomes of the new
-/// string is said.
-pub fn texts_of(
-    context: &mut Context,
-    heap: &mut Heap,
-    program: &Program,
-    sum: Sum,
-    left: Value,
-    right: Value,
-) -> Result<Control, Memory>
-    ensures goes { IfOk result (GoesToValue program.now context.old heap.old context.new heap.new
-        (λ p m. the_texts_of p m sum left right)) }
-    ensures short { IfOk result (λ c. height context.new + gives c ≤ height context.old + 1) }
-    ensures begun { context.new.begun ≡ context.old.begun }
-{
-    match spell(context.alloc, heap, left)? {
-        Spelled::Units(front) => text_behind(context, heap, program, sum, front, right),
-        Spelled::Told(object) => {
-            let told = Told::Left { right, sum };
-            tell(context, heap, program, object, told)
-        }
-        Spelled::Wrong => Ok(Control::Wrong),
-    }
-}
-
-/// The new string of two operands that have values.
-pub fn concat(
-    context: &mut Context,
-    heap: &mut Heap,
-    program: &Program,
-    left: Value,
-    right: Value,
-) -> Result<Control, Memory>
-    ensures goes { IfOk result (GoesToValue program.now context.old heap.old context.new heap.new
-        (λ p m. concatenated (the_to_string p m) left right)) }
-    ensures short { IfOk result (λ c. height context.new + gives c ≤ height context.old + 1) }
-    ensures begun { context.new.begun ≡ context.old.begun }
-{
-    texts_of(context, heap, program, Sum::Given, left, right)
 }
 
 // Goes on with what the `toString()` of the left operand gave.
@@ -239,24 +211,70 @@ fn tell_left(
     }
 }
 
-// Goes on with what the `toString()` of the right operand gave.
-fn tell_right(
+// The `toString()` of the left operand, and then the right one.
+fn call_left(
     context: &mut Context,
     heap: &mut Heap,
     program: &Program,
     sum: Sum,
-    front: Units,
-    value: Value,
+    right: Value,
+    object: ObjId,
 ) -> Result<Control, Memory>
     ensures goes { IfOk result (GoesToValue program.now context.old heap.old context.new heap.new
-        (λ p m. bind (the_units_told value) (λ back. summed p sum (front ++ back)))) }
+        (λ p m. bind (the_to_string p m object) (λ v.
+        bind (the_units_told v) (λ front. the_text_behind p m sum front right)))) }
     ensures short { IfOk result (λ c. height context.new + gives c ≤ height context.old + 1) }
     ensures begun { context.new.begun ≡ context.old.begun }
 {
-    match units_told(context.alloc, heap, value)? {
-        Some(back) => sum_up(context, heap, program, sum, front, &back),
-        None => Ok(Control::Wrong),
+    match tell(context, heap, program, object)? {
+        Telling::Body { own, ends, body } => {
+            enter_telling(context, own, ends, body, Told::Left { right, sum })
+        }
+        Telling::Library(ran) => match ran {
+            Ran::Value(value) => tell_left(context, heap, program, sum, right, value),
+            Ran::Throws(exception) => Ok(Control::Throw(exception)),
+            Ran::Spent => Ok(Control::Spent),
+            Ran::Wrong => Ok(Control::Wrong),
+        },
     }
+}
+
+/// Once both operands have values: the left one comes to its text before the right one does. What becomes of the new
+/// string is said.
+pub fn texts_of(
+    context: &mut Context,
+    heap: &mut Heap,
+    program: &Program,
+    sum: Sum,
+    left: Value,
+    right: Value,
+) -> Result<Control, Memory>
+    ensures goes { IfOk result (GoesToValue program.now context.old heap.old context.new heap.new
+        (λ p m. the_texts_of p m sum left right)) }
+    ensures short { IfOk result (λ c. height context.new + gives c ≤ height context.old + 1) }
+    ensures begun { context.new.begun ≡ context.old.begun }
+{
+    match spell(context.alloc, heap, left)? {
+        Spelled::Units(front) => text_behind(context, heap, program, sum, front, right),
+        Spelled::Told(object) => call_left(context, heap, program, sum, right, object),
+        Spelled::Wrong => Ok(Control::Wrong),
+    }
+}
+
+/// The new string of two operands that have values.
+pub fn concat(
+    context: &mut Context,
+    heap: &mut Heap,
+    program: &Program,
+    left: Value,
+    right: Value,
+) -> Result<Control, Memory>
+    ensures goes { IfOk result (GoesToValue program.now context.old heap.old context.new heap.new
+        (λ p m. concatenated (the_to_string p m) left right)) }
+    ensures short { IfOk result (λ c. height context.new + gives c ≤ height context.old + 1) }
+    ensures begun { context.new.begun ≡ context.old.begun }
+{
+    texts_of(context, heap, program, Sum::Given, left, right)
 }
 
 /// Goes on with what a `toString()` gave.

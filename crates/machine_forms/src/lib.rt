@@ -9,5 +9,7 @@ pub mod call;
 pub mod capture;
 pub mod concat;
 pub mod expr;
+pub mod library;
+pub mod telling;
 pub mod update;
 pub mod variable;

@@ -1,24 +1,28 @@
-// A call from outside begins with its body: no move of its own comes before.
+// A call from outside begins with its body, with no move of its own before, or ends with what a member of the library comes to.
 
 ghost use Rattle.std.specs.Prelude.{◌≡◌, ◌≤◌, ◌<◌, ◌+◌, IfOk, Some};
 ghost use Rattle.je_core.specs.View.{method_view};
 ghost use Rattle.je_java.specs.Raised.{class_cast};
-ghost use Rattle.je_java.specs.Steps.{raise};
-ghost use Rattle.je_java.specs.Meaning.{replied as the_replied, replied_exact, replied_virtual, replied_fresh, built, call_by};
+ghost use Rattle.je_java.specs.Steps.{raise, bind, ret};
+ghost use Rattle.je_java.specs.LibraryMembers.{run_library as the_run_library};
+ghost use Rattle.machine_parts.specs.Outermost.{replied};
+ghost use Rattle.je_java.specs.Meaning.{member_at, run_member, replied as the_replied, replied_exact, replied_virtual, replied_fresh, built, call_by};
 ghost use Rattle.machine_parts.specs.declared.frame.Reply.{Reply as TheReply};
 ghost use Rattle.machine_parts.specs.way.Clauses.{GoesToReply, BeginsBody, Falls};
 
 use crate::node::exec;
+use class_members::{dispatched, method_at};
 use je_core::{ClassId, Memory, Method, ObjId, Program, Slots, Stmt, Value};
 use je_heap::Heap;
 use je_java::Receiver;
 use machine_forms::argument::hand_on;
 use machine_forms::call::body;
-use machine_parts::class::{dispatched, locals_for, method};
+use machine_forms::library::{Ran, run_library};
+use machine_parts::class::{locals_for, method};
 use machine_parts::frame::{Call, Context, Control, Env, Made, Reply};
 use machine_parts::make::{class_cast_class, instance};
 use machine_parts::reply::nobody;
-use machine_parts::shape::class_of;
+use machine_parts::shape::{receiving_class, type_of};
 use machine_parts::stack::Stack;
 use std::rc::Rc;
 
@@ -41,34 +45,89 @@ fn begin_body(
     exec(context, program, heap, body)
 }
 
-// A method's body on a receiver.
-fn start_method(
+// A member of the library, which has no body: what it comes to ends the call.
+fn end_by_library(
     context: &mut Context,
-    heap: &Heap,
+    heap: &mut Heap,
     program: &Program,
-    reply: &mut Reply,
+    reply: Reply,
+    class: ClassId,
+    at: usize,
+    this: Value,
+    args: &Slots,
+) -> Result<Control, Memory>
+    ensures goes { IfOk result (GoesToReply program.now
+        context.old heap.old reply context.new heap.new (λ p m.
+        bind (the_run_library p class at this args.now) (λ value. ret (replied reply value)))) }
+    ensures falls { IfOk result (Falls context.old context.new) }
+    ensures begun { context.new.begun ≡ context.old.begun }
+{
+    let ran = run_library(context, heap, program, class, at, this, args)?;
+    context.env = nobody(context.alloc);
+    match ran {
+        Ran::Value(value) => Ok(Control::Done(reply.replied(value))),
+        Ran::Throws(exception) => Ok(Control::Thrown(exception)),
+        Ran::Spent => Ok(Control::Spent),
+        Ran::Wrong => Ok(Control::Wrong),
+    }
+}
+
+// A method of a number of a class on a receiver: its body begins; a member of the library, which has none, is run.
+fn start_member(
+    context: &mut Context,
+    heap: &mut Heap,
+    program: &Program,
+    reply: Reply,
+    class: ClassId,
+    at: usize,
     method: &Method,
     this: Value,
     args: Slots,
 ) -> Result<Control, Memory>
     ensures goes { IfOk result (GoesToReply program.now
-        context.old heap.now reply.new context.new heap.now
-        (λ p m. the_replied m (method_view method.now) this args)) }
+        context.old heap.old reply context.new heap.new (λ p m.
+        bind (run_member p m (member_at class at) (method_view method.now) this args)
+        (λ value. ret (replied reply value)))) }
     ensures falls { IfOk result (Falls context.old context.new) }
     ensures begun { context.new.begun ≤ context.old.begun + 1 }
 {
-    let Some(body) = body(method)? else {
-        return Ok(Control::Wrong);
-    };
-    *reply = Reply::Result(method.returns);
-    let locals = locals_for(method, args)?;
-    begin_body(context, heap, program, body, this, locals)
+    match body(method)? {
+        Some(body) => {
+            let locals = locals_for(method, args)?;
+            begin_body(context, heap, program, body, this, locals)
+        }
+        None => end_by_library(context, heap, program, reply, class, at, this, &args),
+    }
 }
 
-// The body of the named method itself, without a receiver.
+// A method on a receiver.
+fn start_method(
+    context: &mut Context,
+    heap: &mut Heap,
+    program: &Program,
+    reply: &mut Reply,
+    class: ClassId,
+    at: usize,
+    method: &Method,
+    this: Value,
+    args: Slots,
+) -> Result<Control, Memory>
+    ensures goes { IfOk result (GoesToReply program.now
+        context.old heap.old reply.new context.new heap.new
+        (λ p m. the_replied p m (member_at class at) (method_view method.now) this args)) }
+    ensures falls { IfOk result (Falls context.old context.new) }
+    ensures begun { context.new.begun ≤ context.old.begun + 1 }
+{
+    *reply = Reply::Result(method.returns);
+    start_member(
+        context, heap, program, *reply, class, at, method, this, args,
+    )
+}
+
+// The named method itself, without a receiver.
 fn start_exact(
     context: &mut Context,
-    heap: &Heap,
+    heap: &mut Heap,
     program: &Program,
     reply: &mut Reply,
     class: ClassId,
@@ -76,15 +135,17 @@ fn start_exact(
     args: Slots,
 ) -> Result<Control, Memory>
     ensures goes { IfOk result (GoesToReply program.now
-        context.old heap.now reply.new context.new heap.now
+        context.old heap.old reply.new context.new heap.new
         (λ p m. replied_exact p m class at args)) }
     ensures falls { IfOk result (Falls context.old context.new) }
     ensures begun { context.new.begun ≤ context.old.begun + 1 }
 {
-    match method(program, class, at) {
-        Some(method) => start_method(context, heap, program, reply, method, Value::Null, args),
-        None => Ok(Control::Wrong),
-    }
+    let Some(method) = method(program, class, at) else {
+        return Ok(Control::Wrong);
+    };
+    let at = at as usize;
+    let this = Value::Null;
+    start_method(context, heap, program, reply, class, at, method, this, args)
 }
 
 // Ends with a new ClassCastException: no body has begun that could catch it.
@@ -106,7 +167,7 @@ fn end_by_class_cast(
     }
 }
 
-// The body of the method that an object's class has for the named one, if it takes the arguments.
+// The method that an object's class has for the named one, if it takes the arguments.
 fn start_virtual(
     context: &mut Context,
     heap: &mut Heap,
@@ -123,48 +184,60 @@ fn start_virtual(
     ensures falls { IfOk result (Falls context.old context.new) }
     ensures begun { context.new.begun ≤ context.old.begun + 1 }
 {
-    let Some(own) = class_of(heap, object) else {
+    let Some(own) = type_of(heap, object) else {
         return Ok(Control::Wrong);
     };
     let Some(named) = method(program, class, at) else {
         return Ok(Control::Wrong);
     };
-    let Some(found) = dispatched(program, own, class, at) else {
+    let Some((by, place)) = dispatched(program, receiving_class(own), class, at as usize) else {
+        return Ok(Control::Wrong);
+    };
+    let Some(found) = method_at(program, by, place) else {
         return Ok(Control::Wrong);
     };
     let this = Value::Ref(object);
     match hand_on(context.alloc, heap, program, named, found, &args)? {
-        Some(true) => start_method(context, heap, program, reply, found, this, args),
+        Some(true) => start_method(context, heap, program, reply, by, place, found, this, args),
         Some(false) => end_by_class_cast(context, heap, program),
         None => Ok(Control::Wrong),
     }
 }
 
-// A constructor's body on an object that was made for it.
+// A constructor on an object that was made for it.
 fn start_constructor(
     context: &mut Context,
-    heap: &Heap,
+    heap: &mut Heap,
     program: &Program,
     reply: &mut Reply,
+    class: ClassId,
+    at: usize,
     constructor: &Method,
     object: ObjId,
     args: Slots,
 ) -> Result<Control, Memory>
     ensures goes { IfOk result (GoesToReply program.now
-        context.old heap.now reply.new context.new heap.now
-        (λ p m. built p m (method_view constructor.now) object args)) }
+        context.old heap.old reply.new context.new heap.new (λ p m.
+        built p m (member_at class at) (method_view constructor.now) object args)) }
     ensures falls { IfOk result (Falls context.old context.new) }
     ensures begun { context.new.begun ≤ context.old.begun + 1 }
 {
-    let Some(body) = body(constructor)? else {
-        return Ok(Control::Wrong);
-    };
     *reply = Reply::Built(object);
-    let locals = locals_for(constructor, args)?;
-    begin_body(context, heap, program, body, Value::Ref(object), locals)
+    let this = Value::Ref(object);
+    start_member(
+        context,
+        heap,
+        program,
+        *reply,
+        class,
+        at,
+        constructor,
+        this,
+        args,
+    )
 }
 
-// A new object, and the body of its constructor.
+// A new object, and its constructor.
 fn start_fresh(
     context: &mut Context,
     heap: &mut Heap,
@@ -188,21 +261,24 @@ fn start_fresh(
         }
         Made::Wrong => return Ok(Control::Wrong),
     };
-    match method(program, class, at) {
-        Some(constructor) => start_constructor(
-            context,
-            heap,
-            program,
-            reply,
-            constructor,
-            object,
-            args,
-        ),
-        None => Ok(Control::Wrong),
-    }
+    let Some(constructor) = method(program, class, at) else {
+        return Ok(Control::Wrong);
+    };
+    let at = at as usize;
+    start_constructor(
+        context,
+        heap,
+        program,
+        reply,
+        class,
+        at,
+        constructor,
+        object,
+        args,
+    )
 }
 
-/// Begins the call: finds or makes its receiver and its method, and begins the body.
+/// Begins the call: finds or makes its receiver and its method, and begins the body, or runs the member of the library.
 pub fn start(
     context: &mut Context,
     heap: &mut Heap,

@@ -7,7 +7,7 @@ use Rattle.machine_parts.specs.Ways.{waits, valued, state}
 use Rattle.machine_parts.specs.way.Clauses.{made_ways}
 use Rattle.machine_parts.proofs.Results.{if_ok-map}
 use Rattle.machine_forms.specs.way.Updating.{becomes}
-use Rattle.machine_forms.proofs.Telling.{summed_first}
+use Rattle.machine_forms.proofs.Joining.{summed_first}
 use Rattle.machine_forms.proofs.concat.sum_up.Goals as goal
 
 pub returns-in-Object-clause-goes : goal.returns-in-Object-clause-goes

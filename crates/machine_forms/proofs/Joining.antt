@@ -1,25 +1,28 @@
 -- A call of an object's `toString()`, which hands no argument on, and what becomes of a new string.
 use Rattle.std.proofs.Common.{◌≡◌, ℕ, List, [], ◌∷◌, Option, Some, refl, ap, ◌∙◌}
 use Rattle.std.specs.Prelude.{Bool, true, false, if◌then◌else◌}
-use Rattle.je_core.specs.declared.types.ClassId.{ClassId}
 use Rattle.je_core.specs.declared.types.Ty.{Ty}
 use Rattle.je_core.specs.declared.value.ObjId.{ObjId}
 use Rattle.je_core.specs.declared.value.Value.{Value}
 use Rattle.je_core.specs.declared.value.Value.TheVariants.{Ref}
 use Rattle.je_core.specs.Core.{CoreMethod, CoreProgram}
+use Rattle.je_classes.specs.Dispatch.{dispatched}
 use Rattle.je_classes.specs.Hierarchy.{object_class}
+use Rattle.je_classes.specs.Members.{Member, method_of}
 use Rattle.je_classes.specs.Subtypes.{same_types}
-use Rattle.je_java.specs.Classes.{method_at, method_for}
+use Rattle.je_java.specs.Classes.{method_at}
 use Rattle.je_java.specs.LibraryClasses.{to_string_place}
-use Rattle.je_java.specs.World.{class_of}
-use Rattle.je_java.specs.Steps.{State, Answer, Run, Exits, Computation, Nothing, ret, bind, seq, need, deref, get_class, make_text, on_some}
-use Rattle.je_java.specs.Meaning.{Meanings, run_method, admit_all, hand_on, to_string}
+use Rattle.je_java.specs.World.{type_of}
+use Rattle.je_java.specs.Steps.{State, Answer, Run, Exits, Computation, Nothing, ret, bind, seq, need, deref, get_type, get_receiving_class, receiving_class, make_text, on_some}
+use Rattle.je_java.specs.Meaning.{Meanings, member_at, run_member, admit_all, hand_on, to_string}
 use Rattle.machine_parts.specs.declared.frame.Made.{Made}
 use Rattle.machine_parts.specs.declared.frame.Sum.{Sum}
 use Rattle.machine_parts.specs.declared.frame.Sum.TheVariants.{Given, Stored}
 use Rattle.machine_parts.specs.Telling.{summed}
 use Rattle.machine_parts.specs.Ways.{Ways, valued}
 use Rattle.machine_parts.specs.way.Clauses.{made_ways}
+use Rattle.machine_forms.specs.declared.telling.Telling.{Telling}
+use Rattle.machine_forms.specs.way.Calling.{telling_ways}
 use Rattle.machine_forms.specs.way.Updating.{becomes}
 
 none_admitted : (p : CoreProgram) (types : List Ty) → admit_all p types [] ≡ ret tt
@@ -36,14 +39,21 @@ nothing_handed p named method = either (same_types named.params method.params) _
 there : {A : Type 0} (o : Option A) (a : A) (go : A → Answer) → o ≡ Some a → on_some o go ≡ go a
 there o a go e = ap (λ o'. on_some o' go) e
 
-pub told_first : (p : CoreProgram) (m : Meanings) (object : ObjId) (own : ClassId) (named method : CoreMethod) (go : Value → Run) (exits : Exits) (s : State) →
-    class_of s.world.objects object.0 ≡ Some own → method_at p object_class to_string_place ≡ Some named →
-    method_for p own object_class to_string_place ≡ Some method →
-    to_string p m object go exits s ≡ run_method m method (Ref object) [] go exits s
-unfolding ret bind seq need deref get_class
-told_first p m object own named method go exits s c n f =
-    there _ own _ c ∙ there _ named _ n ∙ there _ method _ f
-    ∙ (λ i. nothing_handed p named method i (λ u. run_method m method (Ref object) [] go exits) exits s)
+pub told_first : (p : CoreProgram) (m : Meanings) (object : ObjId) (own : Ty) (named method : CoreMethod) (member : Member) (go : Value → Run) (exits : Exits) (s : State) →
+    type_of s.world.objects object.0 ≡ Some own → method_at p object_class to_string_place ≡ Some named →
+    dispatched p (receiving_class own.dims own.base) (member_at object_class to_string_place) ≡ Some member → method_of p member ≡ Some method →
+    to_string p m object go exits s ≡ run_member p m member method (Ref object) [] go exits s
+unfolding ret bind seq need deref get_type get_receiving_class
+told_first p m object own named method member go exits s c n d f =
+    there _ own _ c ∙ there _ named _ n ∙ there _ member _ d ∙ there _ method _ f
+    ∙ (λ i. nothing_handed p named method i (λ u. run_member p m member method (Ref object) [] go exits) exits s)
+
+-- how it goes on with what the call came to
+pub told_on : (p : CoreProgram) (m : Meanings) (object : ObjId) (telling : Telling) (rest : Value → Computation Value) (k : Ways) (s after : State) →
+    ((go : Value → Run) (exits : Exits) → telling_ways m telling go exits after ≡ to_string p m object go exits s) →
+    telling_ways m telling (λ v. valued (rest v) k) k.out after ≡ valued (bind (to_string p m object) rest) k s
+unfolding bind
+told_on p m object telling rest k s after h = h (λ v. valued (rest v) k) k.out
 
 -- what becomes of the string that was made
 
