@@ -1,12 +1,13 @@
 // A call from outside begins with its body, with no move of its own before, or ends with what a member of the library comes to.
 
 ghost use Rattle.std.specs.Prelude.{◌≡◌, ◌≤◌, ◌<◌, ◌+◌, IfOk, Some};
-ghost use Rattle.je_core.specs.View.{method_view};
+ghost use Rattle.je_core.specs.View.{method_view, stmt_view};
+ghost use Rattle.je_core.specs.Defaults.{default_of};
 ghost use Rattle.je_java.specs.Raised.{class_cast};
 ghost use Rattle.je_java.specs.Steps.{raise, bind, ret};
 ghost use Rattle.je_java.specs.LibraryMembers.{run_library as the_run_library};
-ghost use Rattle.machine_parts.specs.Outermost.{replied};
-ghost use Rattle.je_java.specs.Meaning.{member_at, run_member, replied as the_replied, replied_exact, replied_virtual, replied_fresh, built, call_by};
+ghost use Rattle.machine_parts.specs.Outermost.{at_end, replied};
+ghost use Rattle.je_java.specs.Meaning.{member_at, run_member, run_method, replied as the_replied, replied_exact, replied_virtual, replied_fresh, built, call_by};
 ghost use Rattle.machine_parts.specs.declared.frame.Reply.{Reply as TheReply};
 ghost use Rattle.machine_parts.specs.way.Clauses.{GoesToReply, BeginsBody, Falls};
 
@@ -72,6 +73,31 @@ fn end_by_library(
     }
 }
 
+// A method with a body on a receiver: its body begins. Where it ends without a return, the reply is the one that goes with the
+// default of its type.
+fn start_body(
+    context: &mut Context,
+    heap: &Heap,
+    program: &Program,
+    reply: Reply,
+    method: &Method,
+    body: Rc<Stmt>,
+    this: Value,
+    args: Slots,
+) -> Result<Control, Memory>
+    requires body { Some (stmt_view body.value) ≡ (method_view method.now).body }
+    requires end { replied reply (at_end reply) ≡ replied reply (default_of method.now.returns) }
+    ensures goes { IfOk result (GoesToReply program.now
+        context.old heap.now reply context.new heap.now (λ p m.
+        bind (run_method m (method_view method.now) this args)
+        (λ value. ret (replied reply value)))) }
+    ensures falls { IfOk result (Falls context.old context.new) }
+    ensures begun { context.new.begun ≤ context.old.begun + 1 }
+{
+    let locals = locals_for(method, args)?;
+    begin_body(context, heap, program, body, this, locals)
+}
+
 // A method of a number of a class on a receiver: its body begins; a member of the library, which has none, is run.
 fn start_member(
     context: &mut Context,
@@ -84,6 +110,7 @@ fn start_member(
     this: Value,
     args: Slots,
 ) -> Result<Control, Memory>
+    requires end { replied reply (at_end reply) ≡ replied reply (default_of method.now.returns) }
     ensures goes { IfOk result (GoesToReply program.now
         context.old heap.old reply context.new heap.new (λ p m.
         bind (run_member p m (member_at class at) (method_view method.now) this args)
@@ -92,10 +119,7 @@ fn start_member(
     ensures begun { context.new.begun ≤ context.old.begun + 1 }
 {
     match body(method)? {
-        Some(body) => {
-            let locals = locals_for(method, args)?;
-            begin_body(context, heap, program, body, this, locals)
-        }
+        Some(body) => start_body(context, heap, program, reply, method, body, this, args),
         None => end_by_library(context, heap, program, reply, class, at, this, &args),
     }
 }
