@@ -4,6 +4,10 @@
 #[cfg(test)]
 mod assigning;
 #[cfg(test)]
+mod flowing;
+#[cfg(test)]
+mod programs;
+#[cfg(test)]
 mod reaching;
 #[cfg(test)]
 mod throwing;

@@ -1,11 +1,12 @@
 // Which exceptions are caught or declared, and which catches take nothing (JLS 11.2). The classes E extends Exception,
 // F extends E, A with a method under test, and an anonymous class.
 
+use crate::programs::{CONSTRUCTOR, class, fault_at, library, library_classes, mark, method};
 use crate::trees::{at, block};
 use flow_base::{FaultKind, FirstFault, FlowFault};
 use je_core::{
-    Access, Base, Catch, Class, ClassId, Flags, Initializer, Kind, Mark, Memory, Method, NameId,
-    Program, Sort, Stmt, Ty, make_do, make_local, make_new, make_return, make_throw, make_try,
+    Catch, ClassId, Initializer, Memory, Program, Sort, Stmt, make_do, make_local, make_new,
+    make_return, make_throw, make_try,
 };
 use je_table::LibraryClass;
 use reported_exceptions::judge_program;
@@ -17,99 +18,6 @@ const E: ClassId = ClassId(39);
 const F: ClassId = ClassId(40);
 
 const ANONYMOUS: ClassId = ClassId(42);
-
-const CONSTRUCTOR: u32 = 1;
-
-fn library(class: LibraryClass) -> ClassId {
-    ClassId(class.number())
-}
-
-fn of(base: Base) -> Ty {
-    Ty { base, dims: 0 }
-}
-
-fn mark(class: ClassId, place: u32) -> Mark {
-    Mark {
-        ty: of(Base::Class(class)),
-        span: at(place),
-        at: at(place),
-    }
-}
-
-fn method(
-    alloc: Global,
-    name: u32,
-    throws: &[ClassId],
-    body: Option<Rc<Stmt>>,
-) -> Result<Method, Memory> {
-    Ok(Method {
-        name: NameId(name),
-        span: at(0),
-        params: Vec::new(alloc),
-        returns: of(Base::Void),
-        flags: Flags {
-            is_static: false,
-            is_final: false,
-            is_abstract: false,
-            is_native: false,
-            is_finalizer: false,
-            access: Access::Public,
-        },
-        throws: Vec::from_slice(alloc, throws)?,
-        locals: Vec::new(alloc),
-        body,
-    })
-}
-
-fn class(alloc: Global, sort: Sort, superclass: Option<ClassId>) -> Class {
-    Class {
-        name: NameId(0),
-        span: at(0),
-        kind: Kind {
-            sort,
-            is_abstract: false,
-            is_final: false,
-            is_static: false,
-        },
-        superclass,
-        interfaces: Vec::new(alloc),
-        heads: Vec::new(alloc),
-        fields: Vec::new(alloc),
-        initializers: Vec::new(alloc),
-        methods: Vec::new(alloc),
-        enclosing: None,
-        captured: 0,
-        within: None,
-        nth: 0,
-        top: ClassId(0),
-        bridges: Vec::new(alloc),
-    }
-}
-
-// The class above one of the library's, of those that matter here.
-fn above(number: u32) -> Option<ClassId> {
-    if number == LibraryClass::Exception.number() || number == LibraryClass::Error.number() {
-        return Some(library(LibraryClass::Throwable));
-    }
-    if number == LibraryClass::RuntimeException.number() {
-        return Some(library(LibraryClass::Exception));
-    }
-    None
-}
-
-// The library's classes, of which the first has a constructor as its third method.
-fn library_classes(alloc: Global) -> Result<Vec<Class>, Memory> {
-    let mut classes = Vec::new(alloc);
-    let mut object = class(alloc, Sort::Class, None);
-    object.methods.push(method(alloc, 3, &[], None)?)?;
-    object.methods.push(method(alloc, 4, &[], None)?)?;
-    object.methods.push(method(alloc, CONSTRUCTOR, &[], None)?)?;
-    classes.push(object)?;
-    for number in 1..39 {
-        classes.push(class(alloc, Sort::Class, above(number)))?;
-    }
-    Ok(classes)
-}
 
 // The first fault of a program where A's method has that body and declares these, and the anonymous class that initializer.
 fn first(
@@ -151,13 +59,6 @@ fn first(
 // The same, where the anonymous class throws nothing.
 fn first_in(alloc: Global, declared: &[ClassId], body: Stmt) -> Result<Option<FlowFault>, Memory> {
     first(alloc, declared, body, nothing(alloc)?)
-}
-
-fn fault_at(kind: FaultKind, place: u32) -> Option<FlowFault> {
-    Some(FlowFault {
-        kind,
-        span: at(place),
-    })
 }
 
 fn nothing(alloc: Global) -> Result<Stmt, Memory> {
