@@ -102,7 +102,7 @@ fn run(
     run_library(alloc, program, heap, left, class, at, call.this, &given)
 }
 
-fn call(class: LibraryClass, signature: &'static str, this: Value, first: Value) -> Call {
+fn a_call(class: LibraryClass, signature: &'static str, this: Value, first: Value) -> Call {
     Call {
         class,
         signature,
@@ -129,27 +129,27 @@ fn members_give_what_java_gives(rt: HostRuntime) -> Result<(), Memory> {
     let rows = [
         // with the units that are left of ten
         (
-            call(LibraryClass::Object, "equals(Object)", text(), number),
+            a_call(LibraryClass::Object, "equals(Object)", text(), number),
             LibraryOutcome::Value(Value::Bool(false)),
             10,
         ),
         (
-            call(LibraryClass::String, "indexOf(String)", text(), part),
+            a_call(LibraryClass::String, "indexOf(String)", text(), part),
             LibraryOutcome::Value(Value::Int(2)),
             5,
         ),
         (
-            call(LibraryClass::String, "hashCode()", text(), Value::Null),
+            a_call(LibraryClass::String, "hashCode()", text(), Value::Null),
             LibraryOutcome::Value(Value::Int(99162322)),
             5,
         ),
         (
-            call(LibraryClass::String, "charAt(int)", text(), Value::Int(5)),
+            a_call(LibraryClass::String, "charAt(int)", text(), Value::Int(5)),
             index,
             10,
         ),
         (
-            call(
+            a_call(
                 LibraryClass::String,
                 "substring(int,int)",
                 text(),
@@ -159,7 +159,7 @@ fn members_give_what_java_gives(rt: HostRuntime) -> Result<(), Memory> {
             8,
         ),
         (
-            call(
+            a_call(
                 LibraryClass::String,
                 "compareTo(String)",
                 text(),
@@ -169,7 +169,7 @@ fn members_give_what_java_gives(rt: HostRuntime) -> Result<(), Memory> {
             5,
         ),
         (
-            call(
+            a_call(
                 LibraryClass::StringBuilder,
                 "append(String)",
                 builder,
@@ -179,7 +179,7 @@ fn members_give_what_java_gives(rt: HostRuntime) -> Result<(), Memory> {
             5,
         ),
         (
-            call(
+            a_call(
                 LibraryClass::StringBuilder,
                 "append(int)",
                 builder,
@@ -189,7 +189,7 @@ fn members_give_what_java_gives(rt: HostRuntime) -> Result<(), Memory> {
             7,
         ),
         (
-            call(
+            a_call(
                 LibraryClass::Integer,
                 "parseInt(String)",
                 Value::Null,
@@ -199,7 +199,7 @@ fn members_give_what_java_gives(rt: HostRuntime) -> Result<(), Memory> {
             10,
         ),
         (
-            call(
+            a_call(
                 LibraryClass::Long,
                 "toString(long)",
                 Value::Null,
@@ -209,7 +209,7 @@ fn members_give_what_java_gives(rt: HostRuntime) -> Result<(), Memory> {
             6,
         ),
         (
-            call(
+            a_call(
                 LibraryClass::Math,
                 "max(int,int)",
                 Value::Null,
@@ -219,12 +219,12 @@ fn members_give_what_java_gives(rt: HostRuntime) -> Result<(), Memory> {
             10,
         ),
         (
-            call(LibraryClass::IntRow, "new(int[])", Value::Null, array),
+            a_call(LibraryClass::IntRow, "new(int[])", Value::Null, array),
             new,
             8,
         ),
         (
-            call(
+            a_call(
                 LibraryClass::Throwable,
                 "getMessage()",
                 exception,
@@ -234,13 +234,13 @@ fn members_give_what_java_gives(rt: HostRuntime) -> Result<(), Memory> {
             10,
         ),
         (
-            call(LibraryClass::Token, "new()", exception, Value::Null),
+            a_call(LibraryClass::Token, "new()", exception, Value::Null),
             LibraryOutcome::Value(Value::Null),
             10,
         ),
         // a wild member
         (
-            call(LibraryClass::Object, "hashCode()", text(), Value::Null),
+            a_call(LibraryClass::Object, "hashCode()", text(), Value::Null),
             LibraryOutcome::Wrong,
             10,
         ),
@@ -261,7 +261,7 @@ fn a_builder_grows(rt: HostRuntime) -> Result<(), Memory> {
     let program = program(alloc)?;
     let mut heap = small_heap(alloc)?;
     let builder = Value::Ref(ObjId(1));
-    let add = call(
+    let add = a_call(
         LibraryClass::StringBuilder,
         "append(String)",
         builder,
