@@ -3,5 +3,3 @@
 
 #[cfg(test)]
 mod reading;
-#[cfg(test)]
-mod taming;
