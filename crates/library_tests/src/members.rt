@@ -245,12 +245,13 @@ fn members_give_what_java_gives(rt: HostRuntime) -> Result<(), Memory> {
             10,
         ),
     ];
-    for (call, want, rest) in &rows {
+    for (call, want, rest) in rows {
         let mut heap = small_heap(alloc)?;
         let mut left = 10;
-        let got = run(alloc, &program, &mut heap, &mut left, call)?;
-        assert_eq!(rt; got, *want, "{}", call.signature);
-        assert_eq!(rt; left, *rest, "{}", call.signature);
+        let signature = call.signature;
+        let got = run(alloc, &program, &mut heap, &mut left, &call)?;
+        assert_eq!(rt; got, want, "{signature}");
+        assert_eq!(rt; left, rest, "{signature}");
     }
     Ok(())
 }
