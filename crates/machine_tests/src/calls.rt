@@ -27,7 +27,7 @@ pub fn call_with(alloc: Global, arg: i32) -> Result<Call, Memory> {
     })
 }
 
-/// How a call ends in a heap, and the units that it took.
+// How a call ends in a heap, and the units that it took.
 pub fn run_in(
     alloc: Global,
     heap: &mut Heap,
@@ -60,11 +60,11 @@ pub fn run_in(
     Ok((Some(Next::More), units))
 }
 
-pub fn gave(value: i32) -> Option<Next> {
+fn gave(value: i32) -> Option<Next> {
     Some(Next::Done(Some(Value::Int(value))))
 }
 
-pub fn thrown(object: u64) -> Option<Next> {
+fn thrown(object: u64) -> Option<Next> {
     Some(Next::Thrown(ObjId(object)))
 }
 
@@ -124,8 +124,7 @@ fn arrays_answer_as_java_does(rt: HostRuntime) -> Result<(), Memory> {
     answer(&rt, rt.alloc(), &mut heap, &rows)
 }
 
-/// Gives a class variable its value.
-pub fn set(heap: &mut Heap, at: u32, value: Value) -> Result<(), Memory> {
+fn set(heap: &mut Heap, at: u32, value: Value) -> Result<(), Memory> {
     if at < heap.statics() {
         heap.set_static(at, value)?;
     }

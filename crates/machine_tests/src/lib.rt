@@ -8,8 +8,6 @@ mod hierarchy;
 #[cfg(test)]
 mod joining;
 #[cfg(test)]
-mod library;
-#[cfg(test)]
 mod nodes;
 #[cfg(test)]
 mod samples;
