@@ -1,0 +1,12 @@
+use Rattle.std.proofs.Common.{◌≡◌, drop, map}
+use Rattle.je_core.specs.View.{field_view}
+use Rattle.je_types.specs.Views.{program_of}
+use Rattle.taming_db.specs.View.{rows}
+use Rattle.rule_breaks.specs.Breaks.{of_each}
+use Rattle.rule_breaks.specs.way.Found.{followed_by}
+use Rattle.field_rules.specs.FieldRules.{grant_breaks}
+use Rattle.field_rules.proofs.programs.judge_grants.Given as goal
+
+abbrev pub invariant-loop-field : goal.invariant-loop-field
+invariant-loop-field l = followed_by l.found (of_each (grant_breaks (program_of l.typed) (rows l.taming)) (map field_view (drop l.field-index l.fields)))
+    ≡ followed_by l.fn.found (of_each (grant_breaks (program_of l.typed) (rows l.taming)) (map field_view l.fields))
