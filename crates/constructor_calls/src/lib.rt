@@ -1,0 +1,11 @@
+//! How constructors come to those of their superclasses.
+//!
+//! A constructor's body begins with the call of another constructor (`calls_constructor` tells such a call), or it calls its
+//! superclass's constructor without parameters by no word of its own (`implicitly_called`). `specs/Calls.antt` has both.
+#![tactic(auto)]
+
+mod calls;
+mod implicit;
+
+pub use calls::calls_constructor;
+pub use implicit::implicitly_called;
