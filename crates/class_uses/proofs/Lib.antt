@@ -1,0 +1,2 @@
+pub mod AboveAlone
+mod Rows

@@ -1,0 +1,3 @@
+pub mod Extended
+pub mod Implemented
+pub mod Constructed
