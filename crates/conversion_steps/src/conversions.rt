@@ -21,8 +21,8 @@ use source_subtypes::{ClassHeads, is_subtype};
 use std::alloc::Global;
 use typed_nodes::{TypedExpr, primitive};
 
-// Whether two bases are one.
-fn is_same_base(base: Base, other: Base) -> bool
+/// Whether two bases are one.
+pub fn is_same_base(base: Base, other: Base) -> bool
     ensures { result ≡ the_same_base base other }
 {
     base == other
@@ -79,7 +79,8 @@ pub fn passes(alloc: Global, heads: &ClassHeads, from: &SrcTy, to: &SrcTy) -> Re
     }
 }
 
-fn small_number(value: Value) -> Option<i32>
+/// The number of a value of type byte, short, char or int.
+pub fn small_number(value: Value) -> Option<i32>
     ensures { result ≡ the_small_number value }
 {
     match value {
@@ -111,8 +112,8 @@ fn holds_value(to: Base, value: Value) -> bool
     }
 }
 
-// Whether a constant of type byte, short, char or int fits a smaller type.
-fn narrows_to(to: Base, value: Option<Value>) -> bool
+/// Whether a constant of type byte, short, char or int fits the type byte, short or char (JLS 5.2).
+pub fn narrows_to(to: Base, value: Option<Value>) -> bool
     ensures { result ≡ the_narrows_to to value }
 {
     match value {
@@ -137,8 +138,8 @@ fn narrows(value: Option<Value>, to: &SrcTy) -> bool
     narrows_if(value, primitive(to))
 }
 
-// Whether a variable of a type takes a value (JLS 5.2).
-fn is_assignable(
+/// Whether a variable of a type takes a value (JLS 5.2).
+pub fn is_assignable(
     alloc: Global,
     heads: &ClassHeads,
     from: &TypedExpr,

@@ -6,4 +6,4 @@
 
 mod conversions;
 
-pub use conversions::{assigned, passes};
+pub use conversions::{assigned, is_assignable, is_same_base, narrows_to, passes, small_number};
