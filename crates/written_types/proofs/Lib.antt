@@ -1,0 +1,4 @@
+pub mod PlainTypes
+pub mod Walking
+pub mod Bounds
+pub mod ClassTypes
