@@ -1,0 +1,6 @@
+pub mod Overloads
+pub mod Methods
+pub mod Calls
+pub mod Constructors
+pub mod Creations
+pub mod Laws
