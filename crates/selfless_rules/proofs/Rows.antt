@@ -10,7 +10,7 @@ use Rattle.je_core.specs.declared.types.Ty.{Ty}
 use Rattle.je_core.specs.Core.{CoreField, CoreMethod, CoreClass, CoreProgram}
 use Rattle.je_classes.specs.Hierarchy.{is_below, library_class, object_class}
 use Rattle.rule_breaks.specs.declared.rules.ConfinementRule.TheVariants as rule
-use Rattle.rule_breaks.specs.Breaks.{none, ◌∪◌, break_at}
+use Rattle.rule_breaks.specs.Breaks.{none, break_at}
 use Rattle.super_equals.specs.Calls.{equals_place}
 use Rattle.taming_db.specs.declared.marker.Marker.TheVariants.{Selfless}
 use Rattle.overlay_types.specs.Overlay.{interface_of, is_marked}

@@ -1,5 +1,5 @@
 -- Calls of Object's `equals(Object)` by `super` (JLS 15.12.1, 15.12.4.4): they tell one object from all others.
-use Rattle.std.specs.Prelude.{ℕ, Bool, false, ◌&&◌, List, filter, nat_eq, unwrap_or, codes}
+use Rattle.std.specs.Prelude.{ℕ, Bool, false, ◌&&◌, filter, nat_eq, unwrap_or, codes}
 use Rattle.std.specs.List.{position}
 use Rattle.std.specs.Str.{bytes_eq}
 use Rattle.je_core.specs.declared.types.ClassId.{ClassId}

@@ -1,5 +1,4 @@
 -- The calls of Object's `equals(Object)` by `super` in an expression, each at the name `equals`.
-use Rattle.std.specs.Prelude.{Bool, List}
 use Rattle.je_base.specs.declared.span.Span.{Span}
 use Rattle.je_core.specs.Core.{Core, CoreForm, Cores, MaybeCore, node, none as no_cores, more, no_core, a_core}
 use Rattle.je_core.specs.Core as core

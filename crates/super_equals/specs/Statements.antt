@@ -1,5 +1,5 @@
 -- The calls of Object's `equals(Object)` by `super` in a statement: those of the expressions that stand in it (JLS 14).
-use Rattle.std.specs.Prelude.{List, Option, Some, None}
+use Rattle.std.specs.Prelude.{Option, Some, None}
 use Rattle.je_core.specs.Core.{Core, CoreStmt, CoreStmtForm, CoreStmts, MaybeStmt, CoreGroup, CoreGroups, CoreCatch, CoreCatches, stmt, no_stmts, more_stmts, no_stmt, a_stmt, group, no_groups, more_groups, catch, no_catches, more_catches}
 use Rattle.je_core.specs.Core as core
 use Rattle.rule_breaks.specs.Breaks.{Breaks, none, ◌∪◌, of_each}
