@@ -19,33 +19,31 @@ use Rattle.je_classes.proofs.Same.{same_type-equal}
 use Rattle.je_fitting.specs.Types.{string}
 use Rattle.je_fitting.proofs.Booleans.{two, both, is_not}
 use Rattle.plain_programs.specs.Nodes.{every, every_part, every_if, every_of, every_value, throughout, throughout_parts, throughout_all, throughout_if, throughout_group, throughout_groups, throughout_catch, throughout_catches}
-use Rattle.plain_programs.specs.Plain.{is_there, has_finally, names_wild, is_wild_operand, joins_wild}
+use Rattle.plain_programs.specs.Plain.{is_there, has_finally, names_wild, joins_wild}
 use Rattle.plain_programs.specs.Wild.{is_wild, is_wild_found, has_wild_text, has_wild_text_of, is_wild_text, is_wild_text_of, text_place}
 use Rattle.plain_programs.proofs.Walking.{through}
 use Rattle.taming_db.specs.Rows.{Row}
-use Rattle.rule_breaks.specs.declared.breaks.Break.{Break}
 use Rattle.rule_breaks.specs.declared.rules.ConfinementRule.{ConfinementRule}
 use Rattle.rule_breaks.specs.declared.rules.ConfinementRule.TheVariants as kind
-use Rattle.rule_breaks.specs.Breaks.{Breaks, none, ◌∪◌, break_where, of_each}
+use Rattle.rule_breaks.specs.Breaks.{Breaks, ◌∪◌, break_where, of_each}
 use Rattle.node_rules.specs.Enabled.{may_use}
 use Rattle.node_rules.specs.Uses.{use_breaks, member_breaks}
 use Rattle.node_rules.specs.ObjectTexts.{span_of, found_like, found_text, is_disabled, has_disabled_text_of, has_disabled_text, operand_breaks, text_breaks}
-use Rattle.node_rules.specs.Comparisons.{comparison_breaks}
 use Rattle.node_rules.specs.Nodes.{node_breaks}
-use Rattle.use_rules.specs.Exceptions.{finally_breaks, error_breaks}
+use Rattle.use_rules.specs.Exceptions.{finally_breaks}
 use Rattle.use_rules.specs.Expressions.{expression_breaks, parts_breaks as the_parts_breaks, maybe_breaks, all_breaks, value_breaks}
-use Rattle.use_rules.specs.Statements.{label_breaks, statement_breaks, form_breaks, parts_breaks, part_breaks, group_breaks, groups_breaks, catch_breaks, catches_breaks}
+use Rattle.use_rules.specs.Statements.{statement_breaks, form_breaks, parts_breaks, part_breaks, group_breaks, groups_breaks, catch_breaks, catches_breaks}
 use Rattle.use_laws.specs.Laws.{IsUnbroken, EnablesNoneWild, IsPlainBody, UnbrokenBodiesArePlain}
 
 -- ---- sets without members
 
-left : (a b : Breaks) → IsUnbroken (a ∪ b) → IsUnbroken a
+pub left : (a b : Breaks) → IsUnbroken (a ∪ b) → IsUnbroken a
 left a b u = record { none_among = λ x h. u.none_among x (inl h) }
 
-right : (a b : Breaks) → IsUnbroken (a ∪ b) → IsUnbroken b
+pub right : (a b : Breaks) → IsUnbroken (a ∪ b) → IsUnbroken b
 right a b u = record { none_among = λ x h. u.none_among x (inr h) }
 
-not-tested : (test : Bool) (rule : ConfinementRule) (at : Span) → IsUnbroken (break_where test rule at) → test ≡ false
+pub not-tested : (test : Bool) (rule : ConfinementRule) (at : Span) → IsUnbroken (break_where test rule at) → test ≡ false
 not-tested false rule at u = refl
 not-tested true rule at u = absurd (u.none_among (record { rule = rule; span = at }) refl)
 
