@@ -2,8 +2,8 @@
 use Rattle.std.specs.Prelude.{ℕ, List, codes}
 use Rattle.flow_base.specs.declared.faults.FaultKind.{FaultKind as FlowRule}
 use Rattle.flow_base.specs.declared.faults.FaultKind.TheVariants as flow
-use Rattle.host_text.specs.declared.rules.ConfinementRule.{ConfinementRule}
-use Rattle.host_text.specs.declared.rules.ConfinementRule.TheVariants as confinement
+use Rattle.rule_breaks.specs.declared.rules.ConfinementRule.{ConfinementRule}
+use Rattle.rule_breaks.specs.declared.rules.ConfinementRule.TheVariants as confinement
 use Rattle.host_text.specs.declared.rules.Rule.{Rule}
 use Rattle.host_text.specs.declared.rules.Rule.TheVariants.{Token, Syntax, Name, Typing, Flow, Confinement}
 use Rattle.je_lexer.specs.declared.fault.FaultKind.{FaultKind as TokenRule}

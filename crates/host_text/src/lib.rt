@@ -13,4 +13,5 @@ mod tests;
 
 pub use finding::Finding;
 pub use reporting::report;
-pub use rules::{ConfinementRule, Rule};
+pub use rule_breaks::ConfinementRule;
+pub use rules::Rule;

@@ -7,43 +7,7 @@ use flow_base::FaultKind as FlowRule;
 use je_lexer::FaultKind as TokenRule;
 use je_typing::TypeRule;
 use name_faults::FaultKind as NameRule;
-
-/// A rule of Joe-E, by the order in which a report names those that are broken at one place.
-#[derive(Clone, Copy, PartialEq, Eq, Debug)]
-pub enum ConfinementRule {
-    /// A class variable isn't final, or its type isn't powerless.
-    StaticField,
-    /// An immutable class has a field that isn't final or whose type isn't immutable.
-    ImmutableField,
-    /// A powerless class has a field whose type isn't powerless.
-    PowerlessField,
-    /// A selfless class has a field that isn't final, a superclass that isn't selfless, or asks for its identity.
-    SelflessClass,
-    /// A class or interface is both selfless and equatable.
-    SelflessEquatable,
-    /// An object under construction is used beside the reading and writing of its fields.
-    ThisEscapes,
-    /// An immutable or powerless class captures a local whose type isn't.
-    CapturedLocal,
-    /// An immutable or powerless class has an enclosing instance that isn't.
-    EnclosingObject,
-    /// References are compared whose types aren't equatable.
-    IdentityComparison,
-    /// An object is turned into text by a member of the library that isn't enabled.
-    ObjectText,
-    /// A method is native.
-    NativeMethod,
-    /// A method is a finalizer.
-    Finalizer,
-    /// A catch names an error.
-    CatchError,
-    /// A `finally` stands.
-    Finally,
-    /// A member of the library is used that isn't enabled.
-    NotEnabled,
-    /// A class or interface of the library is extended that isn't open.
-    NotExtensible,
-}
+use rule_breaks::ConfinementRule;
 
 /// A rule that a program may break, by the phase that finds it.
 #[derive(Clone, Copy, PartialEq, Eq, Debug)]
