@@ -8,5 +8,5 @@ use Rattle.je_interp.specs.Finish.{GoesOnAs, Ends, IsEnd, state_now}
 
 pub ends-before : (p : CoreProgram) (first between last : Machine) (a b c : Contents) (next : Next) →
     GoesOnAs p first a between b → Ends p between b last c next → Ends p first a last c next
-ends-before p first between last a b c next same ends outside =
-    subst (λ answer. IsEnd answer (state_now last c outside) next) (same outside) (ends outside)
+ends-before p first between last a b c next same ends outside started =
+    subst (λ answer. IsEnd answer (state_now last c outside) next) (same outside started) (ends outside started)

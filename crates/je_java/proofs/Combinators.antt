@@ -1,11 +1,12 @@
 -- What goes together goes together later too, and how combinators keep it: for two runs of one program side by side.
-use Rattle.std.proofs.Common.{◌≡◌, ℕ, ◌≤◌, List, Option, Some, None, refl, subst, arith}
+use Rattle.std.proofs.Common.{◌≡◌, ℕ, ◌≤◌, List, Option, Some, None, refl, ap, subst, arith}
 use Rattle.std.specs.Prelude.{if◌then◌else◌, Bool, true, false}
 use Rattle.je_base.specs.declared.span.NameId.{NameId}
 use Rattle.je_core.specs.declared.object.Obj.{Obj}
+use Rattle.je_core.specs.declared.types.ClassId.{ClassId}
 use Rattle.je_core.specs.declared.value.ObjId.{ObjId}
 use Rattle.je_core.specs.declared.value.Value.{Value}
-use Rattle.je_java.specs.Steps.{State, Own, Answer, Run, Exits, Computation, Nothing, ret, bind, seq, yields, wrong, spent, throw, leave, catching, finally, jump, landing, is_break, broken_by, looped, labelled, need, framed, with_own, on_some}
+use Rattle.je_java.specs.Steps.{State, Own, Outside, Answer, Run, Exits, Computation, Nothing, ret, bind, seq, yields, wrong, spent, throw, leave, catching, finally, jump, landing, is_break, broken_by, looped, labelled, need, framed, initializing, with_own, with_starting, on_some}
 use Rattle.je_java.proofs.Pairs.{Parts, nil, cons, OptionRel, none, some, Paired, ValueRel, bool, byte, short, char, int, long, null, ref, ObjectRel, instance, array, text, builder, row, cap, OwnRel, StateRel, Runs, ExitsRel, Rel, Laws, Equal, Values}
 
 pub equal-option : {A : Type 0} (o : Option A) → OptionRel (◌≡◌) o o
@@ -181,5 +182,24 @@ module _ {R : Parts} (L : Laws R) where
             jump = λ again label. record { from = λ n l'' s' t' st'. L.wrongs };
             throw = λ j l' o o' u. record { from = λ n l'' s' t' st'. (out.throw n (omega arith) o o' (paired-more l'' u)).from n (omega arith) _ _ (own-back (omega arith) st.own st') };
           })).from i (omega arith) _ _ (own-back l q st);
+    };
+  }
+
+  starting-both : {k : ℕ} {s t : State} (c d : Option ClassId) → c ≡ d → StateRel R k s t → StateRel R k (with_starting s c) (with_starting t d)
+  starting-both {s = s} {t = t} c d e st = record { objects = st.objects; statics = st.statics; own = st.own; public = st.public; outside = subst (λ (z : Option ClassId). R.Outsides (record s.outside { starting = c }) (record t.outside { starting = z })) e (L.starting c _ _ st.outside) }
+
+  pub rel-initializing : {k : ℕ} {m n : Computation Nothing} (class : ClassId) → Rel R k Equal m n → Rel R k Equal (initializing class m) (initializing class n)
+  unfolding initializing
+  rel-initializing class p = record {
+    run = λ f g x y go out. record {
+      from = λ i l s t st.
+          let before : s.outside.starting ≡ t.outside.starting = ap (λ (o : Outside). o.starting) (L.outside _ _ st.outside) in
+          (p.run _ _ _ _
+          (λ j l' a b u. record { from = λ n l'' s' t' st'. (go n (omega arith) tt tt refl).from n (omega arith) _ _ (starting-both _ _ before st') })
+          (record {
+            leave = λ j l' v w u. record { from = λ n l'' s' t' st'. L.wrongs };
+            jump = λ again label. record { from = λ n l'' s' t' st'. L.wrongs };
+            throw = λ j l' o o' u. record { from = λ n l'' s' t' st'. L.thrown_in_starts n class o o' s' t' (paired-more l'' u) st' };
+          })).from i l _ _ (starting-both (Some class) (Some class) refl st);
     };
   }

@@ -78,7 +78,7 @@ module _ {R : Parts} where
   field-defaults [] = nil
   field-defaults (field ∷ fields) = cons (default-both field.ty) (field-defaults fields)
 
-  local-defaults : {k : ℕ} (locals : List LocalOf) → Values R k (map (λ (local : LocalOf). default_of local.ty) locals) (map (λ (local : LocalOf). default_of local.ty) locals)
+  pub local-defaults : {k : ℕ} (locals : List LocalOf) → Values R k (map (λ (local : LocalOf). default_of local.ty) locals) (map (λ (local : LocalOf). default_of local.ty) locals)
   local-defaults [] = nil
   local-defaults (local ∷ locals) = cons (default-both local.ty) (local-defaults locals)
 

@@ -12,14 +12,15 @@ use Rattle.je_core.specs.declared.value.Value.TheVariants as value
 use Rattle.je_java.specs.declared.call.Receiver.{Receiver}
 use Rattle.je_java.specs.declared.call.Receiver.TheVariants as receiver
 use Rattle.je_java.specs.World.{class_of, type_of, extent_of, count_of, slot_of, with_slot, units_of, held_by, with_units_at}
-use Rattle.je_java.specs.Steps.{State, Own, Public, Answer, Spent, Wrong, Run, Exits, Computation}
+use Rattle.je_java.specs.Steps.{State, Own, Outside, Public, with_started, Answer, ThrownInStart, Spent, Wrong, Run, Exits, Computation}
 
--- two runs side by side: when which objects are paired, and which worlds, public parts and answers go together;
--- time is a number, so far how many objects were made
+-- two runs side by side: when which objects are paired, and which worlds, public parts, what stands outside, and answers
+-- go together; time is a number, so far how many objects were made
 pub record Parts : Type 1 where
   pub Pair : ℕ → ℕ → ℕ → Type 0
   pub Worlds : ℕ → List Obj → List Obj → Type 0
   pub Publics : Public → Public → Type 0
+  pub Outsides : Outside → Outside → Type 0
   pub Answers : Answer → Answer → Type 0
 
 pub data ListRel {A : Type 0} (Q : A → A → Type 0) : List A → List A → Type 0 where
@@ -71,7 +72,7 @@ module _ (R : Parts) where
     pub statics : ListRel (ValueRel k) s.world.statics t.world.statics
     pub own : OwnRel k s.own t.own
     pub public : R.Publics s.public t.public
-    pub outside : s.outside ≡ t.outside
+    pub outside : R.Outsides s.outside t.outside
 
   -- two runs from related states, at that time or later
   pub record Runs (k : ℕ) (g h : Run) : Type 0 where
@@ -94,8 +95,12 @@ module _ (R : Parts) where
     pub pair-more : (k i a b : ℕ) → k ≤ i → R.Pair k a b → R.Pair i a b
     pub public : (p q : Public) → R.Publics p q → p ≡ q
     pub lowered : (p q : Public) (units : ℕ) → units ≤ p.units → R.Publics p q → R.Publics (record p { units = units }) (record q { units = units })
+    pub outside : (p q : Outside) → R.Outsides p q → p ≡ q
+    pub started : (class : ClassId) (p q : Outside) → R.Outsides p q → R.Outsides (with_started p class) (with_started q class)
+    pub starting : (class : Option ClassId) (p q : Outside) → R.Outsides p q → R.Outsides (record p { starting = class }) (record q { starting = class })
     pub wrongs : R.Answers Wrong Wrong
     pub spents : (k : ℕ) (s t : State) → StateRel k s t → R.Answers (Spent s) (Spent t)
+    pub thrown_in_starts : (k : ℕ) (class : ClassId) (o o' : ObjId) (s t : State) → Paired k o o' → StateRel k s t → R.Answers (ThrownInStart class o s) (ThrownInStart class o' t)
     pub references : (k a b c d : ℕ) → R.Pair k a c → R.Pair k b d → nat_eq a b ≡ nat_eq c d
     pub classes : (k : ℕ) (os ps : List Obj) (a b : ℕ) → R.Worlds k os ps → R.Pair k a b → class_of os a ≡ class_of ps b
     pub types : (k : ℕ) (os ps : List Obj) (a b : ℕ) → R.Worlds k os ps → R.Pair k a b → type_of os a ≡ type_of ps b

@@ -106,8 +106,9 @@ does e = statement (Do e)
 abbrev pub world : List Obj → World
 world objects = record { objects = objects; statics = [] }
 
+-- all classes have been started
 abbrev pub nothing : Outside
-nothing = record {}
+nothing = record { started = []; starting = None }
 
 -- a call of the class's first method, without a receiver and with 1,000,000 units
 abbrev run : List CoreMethod → List Value → Answer

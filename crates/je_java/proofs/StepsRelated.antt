@@ -1,11 +1,12 @@
 -- What goes together before a step goes together after it, one lemma a step.
-use Rattle.std.proofs.Common.{◌≡◌, ℕ, suc, ◌-◌, List, refl, subst, arith}
+use Rattle.std.proofs.Common.{◌≡◌, ℕ, suc, ◌-◌, List, refl, ap, subst, arith}
 use Rattle.std.specs.Prelude.{nat_le, if◌then◌else◌, Bool, true, false}
 use Rattle.je_core.specs.declared.object.Obj.{Obj}
+use Rattle.je_core.specs.declared.types.ClassId.{ClassId}
 use Rattle.je_core.specs.declared.value.ObjId.{ObjId}
 use Rattle.je_core.specs.declared.value.Value.{Value}
 use Rattle.je_java.specs.World.{class_of, type_of, extent_of, count_of, units_of, held_by}
-use Rattle.je_java.specs.Steps.{State, Public, Spent, Run, with_units, charge, get_this, get_local, put_local, get_class, get_type, get_extent, get_count, get_slot, put_slot, get_units, put_units, get_static, put_static, new_object}
+use Rattle.je_java.specs.Steps.{State, Outside, Public, Spent, Run, is_started, with_units, charge, get_this, get_local, put_local, get_class, get_type, get_extent, get_count, get_slot, put_slot, get_units, put_units, get_static, put_static, get_started, put_started, new_object}
 use Rattle.je_java.proofs.Pairs.{Parts, OptionRel, Paired, ValueRel, ObjectRel, StateRel, Runs, Rel, Laws, Equal, get-both, set-both}
 use Rattle.je_java.proofs.Combinators.{value-more, values-more, object-more, on_some-both, equal-option}
 
@@ -120,6 +121,18 @@ module _ {R : Parts} (L : Laws R) where
     run = λ f g x y go out. record {
       from = λ i l s t st. on_some-both L (get-both st.statics at) λ old old' e.
           (go i l _ _ (value-more L l q)).from i (omega arith) _ _ (record { objects = st.objects; statics = set-both st.statics at (value-more L l q); own = st.own; public = st.public; outside = st.outside });
+    };
+  }
+
+  pub rel-get_started : {k : ℕ} (class : ClassId) → Rel R k Equal (get_started class) (get_started class)
+  unfolding get_started
+  rel-get_started class = record { run = λ f g x y go out. record { from = λ i l s t st. (go i l _ _ (ap (λ (o : Outside). is_started o class) (L.outside _ _ st.outside))).from i (omega arith) s t st } }
+
+  pub rel-put_started : {k : ℕ} (class : ClassId) → Rel R k Equal (put_started class) (put_started class)
+  unfolding put_started
+  rel-put_started class = record {
+    run = λ f g x y go out. record {
+      from = λ i l s t st. (go i l tt tt refl).from i (omega arith) _ _ (record { objects = st.objects; statics = st.statics; own = st.own; public = st.public; outside = L.started class _ _ st.outside });
     };
   }
 

@@ -1,5 +1,5 @@
 -- The steps on UTF-16 units: what strings and builders give, what a builder takes, and what a new string costs.
-use Rattle.std.proofs.Common.{◌≡◌, ℕ, List, [], ◌∷◌, ◌++◌, refl}
+use Rattle.std.proofs.Common.{◌≡◌, ℕ, List, [], ◌∷◌, ◌++◌, None, refl}
 use Rattle.je_core.specs.declared.object.Obj.{Obj}
 use Rattle.je_core.specs.declared.object.Obj.TheVariants.{Text, Builder}
 use Rattle.je_core.specs.declared.value.ObjId.{ObjId}
@@ -12,7 +12,7 @@ with objects units = record {
   world = record { objects = objects; statics = [] };
   own = record { this = Null; locals = [] };
   public = record { units = units; begun = 0 };
-  outside = record {};
+  outside = record { started = []; starting = None };
 }
 
 -- "hi", and a builder that holds it

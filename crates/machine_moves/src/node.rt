@@ -11,7 +11,7 @@ use machine_parts::frame::{Context, Control};
 use machine_statements::stmt::begin_stmt;
 use std::rc::Rc;
 
-/// Takes the unit of an expression, and begins it.
+/// Takes the unit of an expression, and begins it. It starts no class: all have been started.
 pub fn eval(
     context: &mut Context,
     heap: &mut Heap,

@@ -9,6 +9,7 @@ use Rattle.je_core.specs.Core.{CoreField, CoreStmt, CoreMethod, CoreProgram}
 use Rattle.je_core.proofs.Views.{stmt_list_of_core_stmts}
 use Rattle.je_core.specs.Defaults.{default_of}
 use Rattle.je_classes.specs.Slots.{is_instance, slot_after, slot_fields, fresh_slots, field_slot}
+use Rattle.je_java.specs.Meaning.{static_initializers}
 use Rattle.one_syntax.specs.Trees.{ExprTree, StatementTree, MemberTree, field, method, OneTree}
 use Rattle.one_program.specs.declared.scope.Head.{Head}
 use Rattle.one_program.specs.Scope.{Members, members_of, fields_of, heads_of, scope_of, objects_of}
@@ -116,6 +117,10 @@ module _ (x : NameId) (fields : List CoreField) (methods : List CoreMethod) (new
       let same : 0 + before ≡ before = omega arith in
       ap (λ fs. slot_after (slice_get fields number) (length fs + before)) none-above ∙ ap (λ n. slot_after (slice_get fields number) n) same
 
+  no-initializers : (n : ℕ) → static_initializers (slice_get (program_with x fields methods new).classes n) ≡ []
+  no-initializers zero = refl
+  no-initializers (suc n) = refl
+
 -- a One that fits comes to a program that is well typed
 pub program-typed : (names all_names : List (List ℕ)) (one : OneTree) {program : CoreProgram} → Fits names one → program_of all_names one ≡ Some program →
     ProgramTyped (members_of one) program
@@ -129,5 +134,6 @@ program-typed names all_names one fits e = given typed e
       slot = λ number h. its-slot one.name (map int_field (fields_of one.members)) methods new number ∙ own_slot (fields_of one.members) number h;
       method = λ number head e. let found = method-found fs number head e in (found.0, slice_get-front methods _ number found.1, found.2);
       own_method = λ number head k e s m. dispatch-found one.name (map int_field (fields_of one.members)) new fs fits.methods number head k e s (at-front (default_constructor new ∷ []) fs number head k e m);
+      starts = λ class. no-initializers one.name (map int_field (fields_of one.members)) methods new class.0;
       constructor = (default_constructor new, rw (methods-length fs) (slice_get-seam methods [] (default_constructor new)), constructor-typed new);
     })

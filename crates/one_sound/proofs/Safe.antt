@@ -1,5 +1,5 @@
 -- What evaluation keeps, whatever it is: an invariant of states, and computations that keep it and come to a fine answer.
-use Rattle.std.proofs.Common.{◌≡◌, ℕ, zero, suc, ◌-◌, List, [], ◌∷◌, ◌++◌, length, Option, Some, refl, ap, subst, sym}
+use Rattle.std.proofs.Common.{◌≡◌, ℕ, zero, suc, ◌-◌, List, [], ◌∷◌, ◌++◌, length, Option, Some, None, refl, ap, subst, sym}
 use Rattle.std.specs.Prelude.{Bool, true, false, is_none, ℤ, nat_le, if◌then◌else◌, slice_get, slice_set}
 use Rattle.je_core.specs.Defaults.{default_of}
 use Rattle.je_core.specs.declared.expr.BinOp.{BinOp}
@@ -18,8 +18,10 @@ use Rattle.je_core.specs.declared.types.Ty.{Ty}
 use Rattle.je_java.specs.World.{type_of, slot_of, with_slot, units_of, held_by, with_units_at}
 use Rattle.je_arith.specs.declared.outcome.Outcome.TheVariants.{Gives}
 use Rattle.je_arith.specs.Operators.{binary as binary_outcome}
-use Rattle.je_java.specs.Steps.{State, Own, Answer, Spent, Run, Nothing, Exits, Computation, ret, bind, seq, yields, spent, throw, leave, need, framed, with_own, with_objects, with_units, tick, tick_at, charge, get_this, get_local, put_local, get_type, get_receiving_class, receiving_class, get_slot, put_slot, get_units, put_units, new_object, make, make_text, raise, deref, computed, binary, read_field, write_field}
-use Rattle.je_java.specs.Meaning.{Meanings, run_method, run_member}
+use Rattle.je_java.specs.Steps.{State, Own, Answer, Spent, Run, Nothing, Exits, Computation, ret, bind, seq, yields, spent, throw, leave, need, framed, initializing, get_started, put_started, with_own, with_objects, with_units, tick, tick_at, charge, get_this, get_local, put_local, get_type, get_receiving_class, receiving_class, get_slot, put_slot, get_units, put_units, new_object, make, make_text, raise, deref, computed, binary, read_field, write_field}
+use Rattle.je_classes.specs.Hierarchy.{class_at}
+use Rattle.je_java.specs.Subclasses.{upwards}
+use Rattle.je_java.specs.Meaning.{Meanings, run_method, run_member, static_initializers, start_first, start, start_if}
 
 -- what holds of states between the steps
 pub record Invariant : Type 1 where
@@ -333,3 +335,32 @@ module _ {I : Invariant} {L : Known I Value} {t : I.Time} {c : I.Context} where
       method.body ≡ Some block → Safe I L t c c Q (run_method m method this given) →
       Safe I L t c c Q (run_member program m member method this given)
   safe-run_member program m member method this given b p = rw (ap is_none b) p
+
+  -- the start of a class that has no initializers
+
+  safe-if : {A : Type 0} {d : I.Context} {Q : Known I A} {m n : Computation A} (b : Bool) → Safe I L t c d Q m → Safe I L t c d Q n → Safe I L t c d Q (if b then m else n)
+  safe-if true p q = p
+  safe-if false p q = q
+
+  safe-get_started : (class : ClassId) → Safe I L t c c Any (get_started class)
+  unfolding get_started
+  safe-get_started class = record { run = λ go exits on out s fits. on.from t (I.same t) _ (record {}) s fits }
+
+  safe-put_started : (class : ClassId) → Safe I L t c c Any (put_started class)
+  unfolding put_started
+  safe-put_started class = record { run = λ go exits on out s fits. on.from t (I.same t) tt (record {}) _ (record { objects = fits.objects; own = fits.own }) }
+
+  safe-initializing : (class : ClassId) → Safe I L t c c Any (initializing class (ret tt))
+  unfolding initializing ret
+  safe-initializing class = record { run = λ go exits on out s fits. on.from t (I.same t) tt (record {}) _ (record { objects = fits.objects; own = fits.own }) }
+
+module _ {I : Invariant} {L : Known I Value} {c : I.Context} (p : CoreProgram) (m : Meanings) (none : (class : ClassId) → static_initializers (class_at p class) ≡ []) where
+  safe-start_first : {t : I.Time} (classes : List ClassId) → Safe I L t c c Any (start_first p m classes)
+  safe-start_first {t = t} [] = safe-ret tt (record {})
+  safe-start_first {t = t} (class ∷ above) = safe-bind {P = Any} (safe-get_started class) λ u l started h. safe-if started (safe-ret tt (record {}))
+      (safe-seq {P = Any} (safe-put_started class) λ v k. safe-seq {P = Any} (safe-start_first {t = v} above) λ w j. rw (none class) (safe-initializing class))
+
+  pub safe-start_if : {t : I.Time} (class : Option ClassId) → Safe I L t c c Any (start_if p m class)
+  unfolding start
+  safe-start_if None = safe-ret tt (record {})
+  safe-start_if (Some class) = safe-start_first (upwards p class)

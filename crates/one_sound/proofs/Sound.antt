@@ -15,7 +15,7 @@ use Rattle.one_program.specs.declared.scope.Sort.TheVariants.{Int as int, Object
 use Rattle.one_program.specs.Scope.{Members}
 use Rattle.je_classes.specs.Members.{Member}
 use Rattle.one_sound.proofs.Dispatching.{types-same, method_is}
-use Rattle.one_sound.proofs.Safe.{Safe, Any, safe-ret, safe-bind, safe-seq, safe-yields, safe-need, safe-spent, safe-leave, safe-tick, safe-deref, safe-get_receiving_class, safe-run_method, safe-run_member}
+use Rattle.one_sound.proofs.Safe.{Safe, Any, safe-ret, safe-bind, safe-seq, safe-yields, safe-need, safe-spent, safe-leave, safe-tick, safe-deref, safe-get_receiving_class, safe-run_method, safe-run_member, safe-start_if}
 use Rattle.one_sound.proofs.Values.{IsInt, Ints, Ints-push, Holds, an_int, an_object, Holds-later, type_at_object}
 use Rattle.one_sound.proofs.Typing.{Context, ExprTyped, FormTyped, AllTyped, StmtTyped, StmtsTyped, MethodTyped, ConstructorTyped, ProgramTyped}
 use Rattle.one_sound.proofs.Kept.{invariant, Keeps, keeps-this, keeps-get_local, keeps-put_local, keeps-binary, keeps-read_field, keeps-write_field, keeps-initialize, keeps-make, own-begins}
@@ -150,7 +150,7 @@ pub meanings_keep : {members : Members} {program : CoreProgram} → ProgramTyped
 unfolding meanings
 meanings_keep p zero = record { eval = λ f t. safe-spent; exec = λ f t. safe-spent }
 meanings_keep p (suc n) = record {
-  eval = λ f t. safe-seq safe-tick λ u l. keeps-expr p (meanings_keep p n) f u;
+  eval = λ f t. safe-seq {P = Any} safe-tick λ u l. safe-seq {P = Any} (safe-start_if _ _ p.starts _) λ v k. keeps-expr p (meanings_keep p n) f v;
   exec = λ f t. safe-seq safe-tick λ u l. keeps-stmt p (meanings_keep p n) f u;
 }
 

@@ -5,15 +5,17 @@ use Rattle.je_base.specs.declared.span.NameId.{NameId}
 use Rattle.je_base.specs.declared.span.Span.{Span}
 use Rattle.je_core.specs.declared.expr.BinOp.{BinOp}
 use Rattle.je_core.specs.declared.expr.Use.{Use}
+use Rattle.je_core.specs.declared.types.ClassId.{ClassId}
 use Rattle.je_core.specs.declared.types.Ty.{Ty}
 use Rattle.je_core.specs.declared.value.Value.{Value}
 use Rattle.je_core.specs.declared.value.Value.TheVariants.{Int}
 use Rattle.je_core.specs.Core.{Core, CoreForm, Const, Local, This, Field, Assign, Binary, CallVirtual, CallExact, New, Cores, CoreStmt, CoreStmts, Block, Do, Return, CoreMethod, CoreProgram, node, stmt, no_core, list_of, stmt_list_of}
 use Rattle.je_core.specs.Core as core
+use Rattle.je_classes.specs.Hierarchy.{class_at}
 use Rattle.je_classes.specs.Slots.{fresh_slots, field_slot}
 use Rattle.je_classes.specs.Dispatch.{dispatched}
 use Rattle.je_java.specs.Classes.{method_at}
-use Rattle.je_java.specs.Meaning.{member_at}
+use Rattle.je_java.specs.Meaning.{member_at, static_initializers}
 use Rattle.one_program.specs.Conditions.{is_operator}
 use Rattle.one_program.specs.Elaboration.{one_class, int_type, flags_of}
 use Rattle.one_program.specs.declared.scope.Head.{Head}
@@ -120,4 +122,6 @@ pub record ProgramTyped (members : Members) (program : CoreProgram) : Type 0 whe
   -- no class is above the one, and its methods have distinct names
   pub own_method : (number : ℕ) (head : Head) (method : CoreMethod) → slice_get members.methods number ≡ Some head → head.is_static ≡ false →
       method_at program one_class number ≡ Some method → dispatched program one_class (member_at one_class number) ≡ Some (member_at one_class number)
+  -- no class has initializers
+  pub starts : (class : ClassId) → static_initializers (class_at program class) ≡ []
   pub constructor : (method : CoreMethod) × (method_at program one_class (length members.methods) ≡ Some method) × ConstructorTyped members method

@@ -1,5 +1,5 @@
 -- JLS 15.12.3, 15.12.4: what a method of a One may be called with, and in which world.
-use Rattle.std.specs.Prelude.{◌≡◌, ℕ, ◌<◌, ℤ, Bool, true, false, List, [], length, Some, All, slice_get}
+use Rattle.std.specs.Prelude.{◌≡◌, ℕ, ◌<◌, ℤ, Bool, true, false, List, [], ◌∷◌, length, Some, None, All, slice_get}
 use Rattle.je_core.specs.declared.object.Obj.{Obj}
 use Rattle.je_core.specs.declared.object.Obj.TheVariants.{Instance}
 use Rattle.je_core.specs.declared.value.ObjId.{ObjId}
@@ -20,9 +20,9 @@ pub data IsInt : Value → Type 0 where
 abbrev pub new_world : World
 new_world = record { objects = []; statics = [] }
 
--- nothing stands outside a One
+-- nothing stands outside a One but that its class has been started
 abbrev pub no_outside : Outside
-no_outside = record {}
+no_outside = record { started = true ∷ []; starting = None }
 
 -- as many ints
 pub record Ints (count : ℕ) (values : List Value) : Type 0 where

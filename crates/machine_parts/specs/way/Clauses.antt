@@ -14,7 +14,7 @@ use Rattle.je_core.specs.declared.stmt.Stmt.{Stmt}
 use Rattle.je_core.specs.Core.{Core, CoreForm, Update, CoreStmt, CoreGroup, CoreProgram, form_of, option_of}
 use Rattle.je_core.specs.View.{view, stmt_view, program_view}
 use Rattle.je_heap.specs.Contents.{Contents}
-use Rattle.je_java.specs.Steps.{State, Outside, Own, Done, Spent, Wrong, Run, Exits, Computation, Nothing, ◌>>◌, ret, wrong, raise, throw, put_local, with_own, make}
+use Rattle.je_java.specs.Steps.{State, Outside, AllStarted, Own, Done, Spent, Wrong, Run, Exits, Computation, Nothing, ◌>>◌, ret, wrong, raise, throw, put_local, with_own, make}
 use Rattle.je_java.specs.Raised.{null_pointer, array_index, array_store}
 use Rattle.je_java.specs.Arrays.{storable}
 use Rattle.je_java.specs.Meaning.{Meanings, fetched, java, ends, nobody}
@@ -138,14 +138,14 @@ GoesToReply program old before r new after f c = (outside : Outside) →
 abbrev pub run_from : Program → Ways → Control → List Frame → Run
 run_from program k c fs = resume (program_view program) (java (program_view program)) k c fs
 
--- the control goes on as the old one
+-- the control goes on as the old one, where all classes have been started
 abbrev pub GoesOn : Program → Reply → Context → Contents → Control → Reply → Context → Contents → Control → Type 0
-GoesOn program reply old before control reply' new after c = (outside : Outside) →
+GoesOn program reply old before control reply' new after c = (outside : Outside) → AllStarted outside →
     run_from program (outermost reply') c new.frames (state new after outside) ≡ run_from program (outermost reply) control old.frames (state old before outside)
 
--- the control is what comes to a value
+-- the control is what comes to a value, where all classes have been started
 abbrev pub RunsToValue : Program → Context → Contents → Context → Contents → (Meanings → Computation Value) → Control → Type 0
-RunsToValue program old before new after f c = (k : Ways) (outside : Outside) →
+RunsToValue program old before new after f c = (k : Ways) (outside : Outside) → AllStarted outside →
     run_from program k c new.frames (state new after outside) ≡ valued (f (java (program_view program))) (waits (program_view program) (java (program_view program)) k old.frames) (state old before outside)
 
 -- the control is what comes to a statement's end
