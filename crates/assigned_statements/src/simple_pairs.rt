@@ -153,7 +153,8 @@ pub fn pair_jump(
     label: Option<NameId>,
 ) -> Result<Pair, Memory>
     ensures first { IfOk result (λ e. ends_view e.first ≡ jump_ends (set_view first) again label) }
-    ensures second { IfOk result (λ e. ends_view e.second ≡ jump_ends (set_view second) again label) }
+    ensures second { IfOk result (λ e. ends_view e.second ≡
+        jump_ends (set_view second) again label) }
 {
     Ok(Pair {
         first: jump(alloc, first, again, label)?,

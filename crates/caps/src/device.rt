@@ -54,7 +54,8 @@ pub trait Device: Drop {
         ensures err { OnErr result (told self.new ≡ told self.old) }
 
         // When the count of faults rises.
-        ensures failed { IsErrOf result DeviceFault.Failed → Rose (faults self.old) (faults self.new) }
+        ensures failed { IsErrOf result DeviceFault.Failed → Rose (faults self.old)
+            (faults self.new) }
         ensures ok_count { OnOk result (faults self.new ≡ faults self.old) }
         ensures memory_count { IsErrOf result DeviceFault.Memory →
             faults self.new ≡ faults self.old }

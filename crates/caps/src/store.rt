@@ -70,7 +70,8 @@ impl MemoryStore {
         ensures answer { IfOk result (λ answer. answer ≡
             kept_answer (the_refusal key.now text.now self.old.pairs.items)) }
         ensures form { IfOk result (λ answer. IsTrue (is_keeping answer)) }
-        ensures pairs { OnOk result (self.new.pairs.items ≡ kept key.now text.now self.old.pairs.items) }
+        ensures pairs { OnOk result (self.new.pairs.items ≡ kept key.now text.now
+            self.old.pairs.items) }
         ensures err { OnErr result (self.new.pairs.items ≡ self.old.pairs.items) }
         ensures calls { self.new.calls ≡ self.old.calls }
         ensures faults { self.new.faults ≡ self.old.faults }

@@ -29,7 +29,8 @@ impl<'a> AllClasses<'a> {
     /// What the class of a number declares.
     #[tactic(auto, using(crate::proofs::Behind::in_library), unfolding(crate::specs::View::classes_of))]
     pub fn class(&self, class: ClassId) -> Option<&'a ClassDecl>
-        ensures { option_map (λ d. class_shown d.now) result ≡ slice_get (classes_of self.now) class.0 }
+        ensures { option_map (λ d. class_shown d.now) result ≡
+            slice_get (classes_of self.now) class.0 }
     {
         let at = class.0 as usize;
         if at < self.library.len() {

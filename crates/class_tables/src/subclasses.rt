@@ -155,7 +155,8 @@ impl SubclassTable {
         requires known { AreKnown (program_view program.now) self.old }
         ensures known { OnOk result (AreKnown (program_view program.now) self.new) }
         ensures own { OnOk result (IsKnown (program_view program.now) self.new class) }
-        ensures others { OnOk result ((c : TheClassId) → IsKnown (program_view program.now) self.old c →
+        ensures others { OnOk result ((c : TheClassId) →
+            IsKnown (program_view program.now) self.old c →
             IsKnown (program_view program.now) self.new c) }
     {
         let base = known_above(&self.above, first_super(program, class));

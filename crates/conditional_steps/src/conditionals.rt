@@ -179,7 +179,8 @@ fn constant_node(
 }
 
 fn is_constant(base: Option<Base>, node: &Expr) -> bool
-    ensures { (uses : List TheUse) → result ≡ is_some (the_constant_form base (view node.now) uses) }
+    ensures { (uses : List TheUse) → result ≡
+        is_some (the_constant_form base (view node.now) uses) }
 {
     match base {
         Some(base) => value_in(base, constant_value(node)).is_some(),

@@ -12,7 +12,8 @@ use je_core::{ClassId, Method, Program, Stmt};
 use std::rc::Rc;
 
 fn is_plain_constructor(program: &Program, method: &Method) -> bool
-    ensures { result ≡ the_is_plain_constructor (program_view program.now) (method_view method.now) }
+    ensures { result ≡ the_is_plain_constructor (program_view program.now)
+        (method_view method.now) }
 {
     names_constructors(program, method.name) && method.params.len() == 0
 }

@@ -65,7 +65,8 @@ fn passes_as_base(from: Base, to: Base) -> bool
 /// Whether a value of a type is taken by a call where a parameter has another one: the same primitive type, a wider number, or a
 /// subtype (JLS 5.3).
 pub fn passes(alloc: Global, heads: &ClassHeads, from: &SrcTy, to: &SrcTy) -> Result<bool, Memory>
-    ensures { IfOk result (λ p. p ≡ the_passes (heads_of heads.now) (shown from.now) (shown to.now)) }
+    ensures { IfOk result (λ p. p ≡ the_passes (heads_of heads.now) (shown from.now)
+        (shown to.now)) }
 {
     match primitive(from) {
         Some(base) => match primitive(to) {

@@ -21,7 +21,8 @@ pub fn class_of(ty: &SrcTy) -> Option<ClassId>
 
 #[tactic(auto, using(name_types::proofs::Views::base_is))]
 fn class_of_base(base: &SrcBase) -> Option<ClassId>
-    ensures { (n : ℕ) → option_map (λ (c : ClassId). c.0) result ≡ class_in (base_shown base.now n) }
+    ensures { (n : ℕ) → option_map (λ (c : ClassId). c.0) result
+        ≡ class_in (base_shown base.now n) }
 {
     match base {
         SrcBase::Plain(plain) => class_of_plain(*plain),
@@ -41,7 +42,8 @@ fn class_of_plain(base: Base) -> Option<ClassId>
 
 /// The header of that class.
 pub fn head_of<'a>(heads: &'a ClassHeads, ty: &SrcTy) -> Option<&'a ClassHead>
-    ensures { option_map (λ h. head_shown h.now) result ≡ the_head_of (heads_of heads.now) (shown ty.now) }
+    ensures { option_map (λ h. head_shown h.now) result ≡ the_head_of (heads_of heads.now)
+        (shown ty.now) }
 {
     match class_of(ty) {
         Some(class) => heads.class(class),

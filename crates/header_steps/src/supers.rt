@@ -117,7 +117,8 @@ pub fn well_placed(
     class: ClassId,
     span: Span,
 ) -> Result<(), Refusal>
-    ensures ok { IfOk result (λ done. words.well_placed (heads_of heads.now) class.0 span ≡ gives done) }
+    ensures ok { IfOk result (λ done. words.well_placed (heads_of heads.now) class.0 span
+        ≡ gives done) }
     ensures err { IfErr result (IsFault (words.well_placed (heads_of heads.now) class.0 span)) }
 {
     let own = own_type(alloc, heads, class)?;

@@ -13,7 +13,8 @@ use std::alloc::Global;
 /// number that no name has is printed without one. Memory is answered where an allocation is refused.
 #[tactic(auto, unfolding(crate::specs::Report::report_text))]
 pub fn report(alloc: Global, files: &[String], found: &[Finding]) -> Result<Vec<u8>, Memory>
-    ensures { IfOk result (λ text. text.items ≡ report_text (map string_bytes files.now) found.now) }
+    ensures { IfOk result (λ text. text.items ≡
+        report_text (map string_bytes files.now) found.now) }
 {
     let mut text = Vec::new(alloc);
     for finding in found {

@@ -21,7 +21,8 @@ use std::alloc::Global;
 /// where `library_words` gave the library's words numbers.
 #[tactic(auto, using(library_classes::proofs::Turns::few_rows), unfolding(crate::specs::Library::library_declared))]
 pub fn library_declarations(alloc: Global, names: &Names) -> Result<Vec<ClassDecl>, Memory>
-    ensures { IfOk result (λ ds. map class_shown ds.items ≡ library_declared (number_in names.now)) }
+    ensures { IfOk result (λ ds. map class_shown ds.items ≡
+        library_declared (number_in names.now)) }
 {
     let mut declared = Vec::new(alloc);
     for (at, row) in class_rows().iter().enumerate() {

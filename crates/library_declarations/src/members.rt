@@ -42,7 +42,8 @@ fn is_field_of(row: &ClassRow, member: &MemberRow) -> bool
 }
 
 fn field(names: &Names, class: ClassId, member: &MemberRow) -> FieldDecl
-    ensures { field_shown result ≡ field_declared (number_in names.now) class.0 (row_said member.now) }
+    ensures { field_shown result ≡ field_declared (number_in names.now) class.0
+        (row_said member.now) }
 {
     FieldDecl {
         name: named(names, member.name),

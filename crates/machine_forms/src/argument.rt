@@ -40,7 +40,8 @@ fn admit_all(
     types: &[Ty],
     values: &Slots,
 ) -> Result<Option<bool>, Memory>
-    ensures { IfOk result (Admits program.now heap.now (λ p. the_admit_all p types.now values.now)) }
+    ensures { IfOk result (Admits program.now heap.now
+        (λ p. the_admit_all p types.now values.now)) }
 {
     for at in 0..types.len() {
         let Some(value) = values.get(at) else {

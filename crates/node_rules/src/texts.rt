@@ -34,7 +34,8 @@ fn text_place() -> usize
 
 // The `toString()` that is found in a class.
 fn found_text(alloc: Global, typed: &Typed, class: ClassId) -> Result<Lookup, Memory>
-    ensures { IfOk result (λ found. found_seen found ≡ the_found_text (program_of typed.now) class) }
+    ensures { IfOk result (λ found. found_seen found ≡
+        the_found_text (program_of typed.now) class) }
 {
     match method_at(typed.program(), object_class(), text_place()) {
         None => Ok(Lookup::Nothing),

@@ -32,8 +32,8 @@ pub fn reference_equality(
     left: TypedExpr,
     right: TypedExpr,
 ) -> Result<TypedExpr, Refusal>
-    ensures ok { IfOk result (λ t. the_reference_equality (heads_of heads.now) op at span (seen left)
-        (seen right) ≡ gives (seen t)) }
+    ensures ok { IfOk result (λ t. the_reference_equality (heads_of heads.now) op at span
+        (seen left) (seen right) ≡ gives (seen t)) }
     ensures err { IfErr result (IsFault (the_reference_equality (heads_of heads.now) op at span
         (seen left) (seen right))) }
 {

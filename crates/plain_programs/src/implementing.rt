@@ -45,7 +45,8 @@ fn has_none_wild(program: &Program, id: ClassId, above: ClassId, methods: &[Meth
 
 // Whether what a class has for each method of a class above it isn't wild, unless that is no interface.
 fn implements_plainly_one(program: &Program, id: ClassId, above: ClassId) -> bool
-    ensures { result ≡ tested_from (λ n k. implements_plainly (program_view program.now) id above n) 0
+    ensures { result ≡ tested_from
+        (λ n k. implements_plainly (program_view program.now) id above n) 0
         (methods_of (program_view program.now) above) }
 {
     match program.class(above) {

@@ -19,7 +19,8 @@ use std::alloc::Global;
 // Whether the method of a number among those of a class's rows is wild.
 #[tactic(auto, using(crate::proofs::Rows::rows_in_turn))]
 fn is_wild_among(rows: &[MemberRow], class: &str, at: usize) -> bool
-    ensures { result ≡ is_wild_row (slice_get (filter (is_method_row class.now) (map row_said rows.now)) at) }
+    ensures { result ≡ is_wild_row (slice_get
+        (filter (is_method_row class.now) (map row_said rows.now)) at) }
 {
     let mut before = at;
     for row in rows {

@@ -64,7 +64,8 @@ fn are_distinct(ty: &SrcTy, other: &SrcTy) -> bool
 }
 
 fn is_consistent(ty: &SrcTy, others: &[SrcTy]) -> bool
-    ensures { result ≡ list_all (λ v. not (the_are_distinct (shown ty.now) v)) (map shown others.now) }
+    ensures { result ≡ list_all (λ v. not (the_are_distinct (shown ty.now) v))
+        (map shown others.now) }
 {
     for other in others {
         if are_distinct(ty, other) {

@@ -56,7 +56,8 @@ fn bounded_variable(
     at: usize,
     dims: u8,
 ) -> Result<SrcTy, Memory>
-    ensures { IfOk result (λ t. shown t ≡ the_bounded (heads_of heads.now) (of_variable class.0 at dims)) }
+    ensures { IfOk result (λ t. shown t ≡ the_bounded (heads_of heads.now)
+        (of_variable class.0 at dims)) }
 {
     let mut next = (class, at);
     let mut outer = dims;

@@ -22,7 +22,8 @@ use typed_nodes::{is_reference, null_ty};
 /// Whether an object, or null, of one type may be of another one; only between references.
 #[tactic(auto, unfolding(je_typing::specs::Castable::may_be))]
 pub fn may_be(alloc: Global, heads: &ClassHeads, ty: &SrcTy, other: &SrcTy) -> Result<bool, Memory>
-    ensures { IfOk result (λ may. may ≡ the_may_be (heads_of heads.now) (shown ty.now) (shown other.now)) }
+    ensures { IfOk result (λ may. may ≡ the_may_be (heads_of heads.now) (shown ty.now)
+        (shown other.now)) }
 {
     if !is_reference(ty) || !is_reference(other) {
         return Ok(false);
@@ -162,8 +163,8 @@ fn may_share(
     other: &SrcTy,
     above_other: &[SrcTy],
 ) -> bool
-    ensures { result ≡ the_may_share (heads_of heads.now) class.0 (shown ty.now) (map shown above.now)
-        other_class.0 (shown other.now) (map shown above_other.now) }
+    ensures { result ≡ the_may_share (heads_of heads.now) class.0 (shown ty.now)
+        (map shown above.now) other_class.0 (shown other.now) (map shown above_other.now) }
 {
     is_object(ty)
         || is_object(other)

@@ -40,7 +40,8 @@ impl Found {
 
     /// One more break.
     pub fn add(&mut self, rule: ConfinementRule, span: Span) -> Result<(), Memory>
-        ensures { OnOk result (self.new ≡ followed_by self.old (one (record { rule = rule; span = span }))) }
+        ensures { OnOk result (self.new ≡ followed_by self.old
+            (one (record { rule = rule; span = span }))) }
     {
         self.breaks.push(Break { rule, span })?;
         Ok(())

@@ -23,7 +23,8 @@ use std::alloc::Global;
 /// among these.
 #[tactic(auto, using(source_types::proofs::Reaching::met_are_above))]
 pub fn supertypes(alloc: Global, heads: &ClassHeads, ty: &SrcTy) -> Result<Vec<SrcTy>, Memory>
-    ensures { IfOk result (λ above. HasTypesAbove (heads_of heads.now) (shown ty.now) (map shown above.items)) }
+    ensures { IfOk result (λ above. HasTypesAbove (heads_of heads.now) (shown ty.now)
+        (map shown above.items)) }
 {
     let met = reached(alloc, heads, ty)?;
     Ok(met)
@@ -32,7 +33,8 @@ pub fn supertypes(alloc: Global, heads: &ClassHeads, ty: &SrcTy) -> Result<Vec<S
 // All that are come by, each once, those that are fewer steps away first.
 #[tactic(auto, unfolding(source_types::specs::way::Reaching::all_met))]
 fn reached(alloc: Global, heads: &ClassHeads, ty: &SrcTy) -> Result<Vec<SrcTy>, Memory>
-    ensures { IfOk result (λ met. map shown met.items ≡ all_met (heads_of heads.now) (shown ty.now)) }
+    ensures { IfOk result (λ met. map shown met.items ≡ all_met (heads_of heads.now)
+        (shown ty.now)) }
 {
     let mut met = Vec::new(alloc);
     met.push(copied(alloc, ty)?)?;
@@ -144,7 +146,8 @@ pub fn object() -> SrcTy
 
 // One type more, unless it is there.
 fn add(met: &mut Vec<SrcTy>, ty: SrcTy) -> Result<(), Memory>
-    ensures { OnOk result (map shown met.new.items ≡ with_type (map shown met.old.items) (shown ty)) }
+    ensures { OnOk result (map shown met.new.items ≡ with_type (map shown met.old.items)
+        (shown ty)) }
 {
     if !has(met, &ty) {
         met.push(ty)?;

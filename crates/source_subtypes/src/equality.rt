@@ -58,7 +58,8 @@ fn is_same_plain(a: Base, b: Base) -> bool
 }
 
 fn is_variable(base: &SrcBase, class: ClassId, at: usize) -> bool
-    ensures { (n : ℕ) → result ≡ same_source_type (of_variable class.0 at n) (base_shown base.now n) }
+    ensures { (n : ℕ) → result ≡ same_source_type (of_variable class.0 at n)
+        (base_shown base.now n) }
 {
     match base {
         SrcBase::Var(other, place) => class.0 == other.0 && at == *place,

@@ -24,7 +24,8 @@ pub fn is_subtype(
     ty: &SrcTy,
     other: &SrcTy,
 ) -> Result<bool, Memory>
-    ensures { IfOk result (λ below. below ≡ the_is_subtype (heads_of heads.now) (shown ty.now) (shown other.now)) }
+    ensures { IfOk result (λ below. below ≡ the_is_subtype (heads_of heads.now) (shown ty.now)
+        (shown other.now)) }
 {
     if ty.dims < other.dims {
         return Ok(is_null(&ty.base));
