@@ -3,3 +3,4 @@ pub mod Keys
 pub mod Places
 pub mod OneSaying
 pub mod Reading
+pub mod Tame

@@ -2,7 +2,7 @@ use Rattle.std.proofs.Common.{◌≡◌, ◌+◌, [], drop, map}
 use Rattle.toml.specs.View.{items_view}
 use Rattle.taming_db.specs.Rows.{rows_from}
 use Rattle.taming_db.specs.View.{row_view}
-use Rattle.taming_db.proofs.taming.read_tables.Given as goal
+use Rattle.taming_db.proofs.reader.read_tables.Given as goal
 
 -- the tables that are left are judged behind the rows so far
 abbrev pub invariant-loop-before : goal.invariant-loop-before
