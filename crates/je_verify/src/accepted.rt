@@ -17,12 +17,14 @@ pub struct Accepted {
 
 impl Accepted {
     ghost use Rattle.std.specs.Prelude.{◌≡◌};
+    ghost use Rattle.plain_programs.specs.Plain.{IsPlain};
     ghost use Rattle.je_verify.specs.Views.{typed_of, taming_of};
 
-    /// The program.
+    /// The program, which is plain.
     pub fn typed(&self) -> &Typed
         ensures program { result.now ≡ typed_of self.now }
         ensures unbroken { IsUnbroken (program_of (typed_of self.now)) (rows (taming_of self.now)) }
+        ensures plain { IsPlain (program_of (typed_of self.now)) }
     {
         &self.typed
     }

@@ -2,6 +2,7 @@
 
 ghost use Rattle.std.specs.Prelude.{◌≡◌, IfErr, IfOk, OnOk};
 ghost use Rattle.je_types.specs.Views.{program_of};
+ghost use Rattle.plain_programs.specs.Plain.{IsPlain};
 ghost use Rattle.taming_db.specs.View.{rows};
 ghost use Rattle.rule_breaks.specs.Breaks.{IsListOf};
 ghost use Rattle.je_verify.specs.Broken.{broken as the_broken, IsRefused, IsUnbroken};
@@ -15,7 +16,7 @@ use rule_breaks::{Break, merged};
 use std::alloc::Global;
 use taming_db::Taming;
 
-/// A program that keeps the rules under a taming text.
+/// A program that keeps the rules under a taming text. It is plain.
 ///
 /// # Errors
 ///
@@ -29,6 +30,7 @@ pub fn verify(
     ensures program { IfOk result (λ a. typed_of a ≡ typed) }
     ensures text { IfOk result (λ a. taming_of a ≡ taming) }
     ensures accepted { OnOk result (IsUnbroken (program_of typed) (rows taming)) }
+    ensures plain { OnOk result (IsPlain (program_of typed)) }
     ensures refused { IfErr result (λ e. IsRefused (program_of typed) (rows taming) e.0) }
     ensures program_back { IfErr result (λ e. e.1 ≡ typed) }
     ensures text_back { IfErr result (λ e. e.2 ≡ taming) }

@@ -1,7 +1,7 @@
 //! The verifier: whether a program keeps the sixteen rules of Joe-E.
 //!
 //! `verify` accepts a program that fits exactly where no rule is broken (`IsUnbroken` of `specs/Broken.antt`), and else lists all places
-//! where one is, in order and each once. Both arguments come back.
+//! where one is, in order and each once. Both arguments come back. What is accepted is plain (`IsPlain` of `plain_programs`).
 #![tactic(auto)]
 
 mod accepted;

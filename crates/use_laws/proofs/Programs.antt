@@ -24,7 +24,7 @@ use Rattle.use_rules.specs.Programs.{initializer_breaks, body_breaks, method_bre
 use Rattle.use_laws.specs.Laws.{IsUnbroken, EnablesNoneWild, IsPlainBody, UsesArePlain, UnbrokenUsesArePlain, EmptyListIsUnbroken}
 use Rattle.use_laws.proofs.Plain.{left, right, not-tested, plain}
 
-of-one : {A : Type 0} (f : A → Breaks) (xs : List A) → IsUnbroken (of_each f xs) → (i : ℕ) (x : A) → slice_get xs i ≡ Some x → IsUnbroken (f x)
+pub of-one : {A : Type 0} (f : A → Breaks) (xs : List A) → IsUnbroken (of_each f xs) → (i : ℕ) (x : A) → slice_get xs i ≡ Some x → IsUnbroken (f x)
 of-one f [] u i x e = absurd (none-some x e)
 of-one {A = A} f (y ∷ ys) u zero x e = subst (λ (z : A). IsUnbroken (f z)) (same_Some y x e) (left (f y) (of_each f ys) u)
 of-one f (y ∷ ys) u (suc i) x e = of-one f ys (right (f y) (of_each f ys) u) i x e
@@ -32,7 +32,7 @@ of-one f (y ∷ ys) u (suc i) x e = of-one f ys (right (f y) (of_each f ys) u) i
 guest : (f : ClassId → CoreClass → Breaks) (id : ClassId) (c : CoreClass) → is_guest id ≡ true → IsUnbroken (of_guest f id c) → IsUnbroken (f id c)
 guest f id c g u = subst (λ (b : Bool). IsUnbroken (if b then f id c else none)) g u
 
-of-class : (f : ClassId → CoreClass → Breaks) (n : ℕ) (cs : List CoreClass) → IsUnbroken (guests_from f n cs) → (i : ℕ) (c : CoreClass) → slice_get cs i ≡ Some c →
+pub of-class : (f : ClassId → CoreClass → Breaks) (n : ℕ) (cs : List CoreClass) → IsUnbroken (guests_from f n cs) → (i : ℕ) (c : CoreClass) → slice_get cs i ≡ Some c →
     (id : ClassId) → id.0 ≡ n + i → is_guest id ≡ true → IsUnbroken (f id c)
 of-class f n [] u i c e id q g = absurd (none-some c e)
 of-class f n (y ∷ ys) u zero c e id q g =
