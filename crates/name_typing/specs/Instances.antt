@@ -30,15 +30,15 @@ ty_of_class c = of (base.Class (class_numbered c))
 abbrev pub this_node : Place → Span → Core
 this_node place at = node This (ty_of_class place.here.class) at at
 
--- from an instance of the first class, field by field
-abbrev pub outwards_from : Program → Span → Core → ℕ → List Frame → Core
-outwards_from p at object (suc n) (f ∷ g ∷ fs) =
-    outwards_from p at (node (Field object (class_numbered f.class) (p.outer f.class)) (ty_of_class g.class) at at) n (g ∷ fs)
-outwards_from p at object n fs = object
+-- from an instance of a class so many classes outwards, field by field
+abbrev pub outwards_from : Program → Span → Core → ℕ → ℕ → List Frame → Core
+outwards_from p at object c (suc n) (f ∷ fs) =
+    outwards_from p at (node (Field object (class_numbered c) (p.outer c)) (ty_of_class f.class) at at) f.class n fs
+outwards_from p at object c n fs = object
 
 -- the instance of the class so many classes outwards
 abbrev pub instance_node : Program → Place → ℕ → Span → Core
-instance_node p place n at = outwards_from p at (this_node place at) n (frames place)
+instance_node p place n at = outwards_from p at (this_node place at) place.here.class n place.round
 
 -- ---- JLS 15.8.3
 

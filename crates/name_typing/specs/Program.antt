@@ -1,7 +1,7 @@
 -- What a name in a body is judged by: the classes of the program, and what stands round the place (JLS 6.3, 8.1.3).
 use Rattle.std.specs.Prelude.{ℕ, Bool, List, ◌∷◌, Option}
 use Rattle.je_base.specs.declared.span.NameId.{NameId}
-use Rattle.je_core.specs.Core.{Core}
+use Rattle.je_core.specs.declared.value.Value.{Value}
 use Rattle.je_classes.specs.Members.{Member}
 use Rattle.je_scopes.specs.Sites.{Context}
 use Rattle.je_scopes.specs.Source.{Source}
@@ -9,14 +9,19 @@ use Rattle.je_scopes.specs.SourceTypes.{SourceType}
 use Rattle.source_types.specs.Heads.{ClassHead}
 use Rattle.declarations.specs.Declarations.{DeclaredClass}
 
--- The classes: where they are written, their headers, and what they declare. `constants` has the node of each field that is a
--- constant variable (JLS 4.12.4). `outer` is the place of the field in which an instance of a class keeps the one round it,
+-- the value of a constant variable (JLS 4.12.4): of a primitive type, or a text
+pub data Constant : Type 0 where
+  value_constant : Value → Constant
+  text_constant : List ℕ → Constant
+
+-- The classes: where they are written, their headers, and what they declare. `constants` has the value of each field that is a
+-- constant variable. `outer` is the place of the field in which an instance of a class keeps the one round it,
 -- and `captured` that of the field with the value of a local of the body so many classes outwards, by the local's number.
 pub record Program : Type 0 where
   pub source : Source
   pub heads : List ClassHead
   pub classes : List DeclaredClass
-  pub constants : Member → Option Core
+  pub constants : Member → Option Constant
   pub outer : ℕ → ℕ
   pub captured : ℕ → ℕ → ℕ → ℕ
 
@@ -26,7 +31,7 @@ pub record LocalVariable : Type 0 where
   pub type : SourceType
   pub is_final : Bool
   pub number : ℕ
-  pub constant : Option Core
+  pub constant : Option Constant
 
 -- an initializer of a class or an instance, with how many fields of the class are declared before it; of a field's own
 -- initializer that field isn't one

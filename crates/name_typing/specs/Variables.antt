@@ -4,7 +4,7 @@ use Rattle.std.specs.List.{find}
 use Rattle.je_base.specs.declared.span.NameId.{NameId}
 use Rattle.je_base.specs.declared.span.Span.{Span}
 use Rattle.je_core.specs.declared.expr.Use.{Use}
-use Rattle.je_core.specs.Core.{Core, CoreForm, Cast, Const, Field, Local, Static, Text, form_of, no_core, node, ty_of}
+use Rattle.je_core.specs.Core.{CoreForm, Cast, Const, Field, Local, Static, Text, no_core, node, ty_of}
 use Rattle.je_ast.specs.declared.name.Identifier.{Identifier}
 use Rattle.je_classes.specs.Members.{Member, Found, nothing, one, several}
 use Rattle.je_classes.specs.Subtypes.{same_type}
@@ -19,7 +19,7 @@ use Rattle.je_typing.specs.Judged.{Judged, gives, ◌>>=◌, ◌>>◌, breaks, c
 use Rattle.je_typing.specs.Typed.{TypedNode}
 use Rattle.name_typing.specs.Fields.{field_at, find_field, type_seen}
 use Rattle.name_typing.specs.Instances.{has_instance, instance_node, this_node}
-use Rattle.name_typing.specs.Program.{Frame, Initializer, LocalVariable, Place, Program, frames}
+use Rattle.name_typing.specs.Program.{Constant, Frame, Initializer, LocalVariable, Place, Program, frames, text_constant, value_constant}
 
 -- a local of a body, or a field of the class, so many classes outwards; a field's name that is inherited twice is unclear
 pub data Variable : Type 0 where
@@ -106,19 +106,18 @@ taken heads t =
     if same_type (ty_of t.node) (erased heads t.type) then t
     else record { node = node (Cast t.node) (erased heads t.type) (span_of t.node) (token_of t.node); type = t.type }
 
-abbrev pub with_uses : List Use → CoreForm → CoreForm
-with_uses uses (Const v others) = Const v uses
-with_uses uses (Text units others) = Text units uses
-with_uses uses form = form
+abbrev pub constant_form : List Use → Constant → CoreForm
+constant_form uses (value_constant v) = Const v uses
+constant_form uses (text_constant units) = Text units uses
 
 -- a field of the library is one that its constant was made of
 abbrev pub uses_for : Program → Member → Span → List Use
 uses_for p m at = if is_guest (site_at p.source.sites m.class.0).written then [] else record { class = m.class; field = m.at; span = at } ∷ []
 
 -- a constant variable is its constant, at the place where it is named
-abbrev pub constant_or : List Use → TypedNode → Option Core → TypedNode
+abbrev pub constant_or : List Use → TypedNode → Option Constant → TypedNode
 constant_or uses t None = t
-constant_or uses t (Some constant) = record { node = node (with_uses uses (form_of constant)) (ty_of t.node) (span_of t.node) (token_of t.node); type = t.type }
+constant_or uses t (Some constant) = record { node = node (constant_form uses constant) (ty_of t.node) (span_of t.node) (token_of t.node); type = t.type }
 
 abbrev pub value_of : Program → Span → Variable → TypedNode → TypedNode
 value_of p at (a_local n v) t = constant_or [] t v.constant

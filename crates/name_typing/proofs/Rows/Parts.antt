@@ -10,7 +10,7 @@ use Rattle.je_core.specs.declared.types.Base.{Base}
 use Rattle.je_core.specs.declared.types.Base.TheVariants as base
 use Rattle.je_core.specs.declared.types.Ty.{Ty}
 use Rattle.je_core.specs.declared.value.Value.TheVariants as value
-use Rattle.je_core.specs.Core.{Core, CoreForm, Const, Local, This, node}
+use Rattle.je_core.specs.Core.{Core, CoreForm, Local, This, node}
 use Rattle.je_ast.specs.declared.name.Identifier.{Identifier}
 use Rattle.je_ast.specs.Types.{no_types}
 use Rattle.je_ast.specs.Trees as tree
@@ -23,7 +23,7 @@ use Rattle.source_types.specs.Heads.{ClassHead, object_type}
 use Rattle.declarations.specs.Declarations.{DeclaredClass, DeclaredField}
 use Rattle.je_typing.specs.Typed.{TypedNode}
 use Rattle.name_typing.specs.Fields.{member}
-use Rattle.name_typing.specs.Program.{Program, LocalVariable, Frame, Place}
+use Rattle.name_typing.specs.Program.{Constant, Program, LocalVariable, Frame, Place, value_constant}
 
 abbrev pub at : ℕ → Span
 at n = record { file = 0; start = n; end = n + 1 }
@@ -118,11 +118,11 @@ source = record {
   sites = library_site ∷ library_site ∷ class_site 8 ∷ member_site 9 ∷ class_site 10 ∷ class_site 11 ∷ class_site 12 ∷ class_site 13 ∷ class_site 14 ∷ class_site 15 ∷ [];
 }
 
-abbrev pub seven : Core
-seven = node (Const (value.Int (pos 7)) []) (ty base.Int) (at 20) (at 20)
+abbrev pub seven : Constant
+seven = value_constant (value.Int (pos 7))
 
 -- k is a constant
-abbrev pub constant_of : Bool → Option Core
+abbrev pub constant_of : Bool → Option Constant
 constant_of true = Some seven
 constant_of false = None
 
