@@ -1,0 +1,4 @@
+pub mod Objects
+pub mod Joining
+pub mod Levels
+pub mod OneList
