@@ -49,20 +49,24 @@ module _ (p : CoreProgram) (library : LibraryStands p) where
       due-at library.number 0 classes class.0 c (sym (front (all_due library.number) library.others class.0 within) ∙ ap (λ cs. slice_get cs class.0) (sym library.first) ∙ e)
 
 module _ (number : List ℕ → NameId) where
-  -- no method of the library is native
-  pub not-native : (c : CoreClass) → IsDue number c → (at : ℕ) (m : CoreMethod) → slice_get c.methods at ≡ Some m → m.flags.is_native ≡ false
-  not-native c d at m e = by (slice_get (filter (is_method_of d.row) rows) at) (sym (slice_get-map (method_due number d.row) (filter (is_method_of d.row) rows) at) ∙ ap (λ (k : CoreClass). slice_get k.methods at) d.due ∙ e)
+  -- a method of the class of a row
+  record IsMethodDue (row : Class) (m : CoreMethod) : Type 0 where
+    of : Row
+    due : method_due number row of ≡ m
+
+  row-of : (c : CoreClass) (d : IsDue number c) (at : ℕ) (m : CoreMethod) → slice_get c.methods at ≡ Some m → IsMethodDue d.row m
+  row-of c d at m e = by (slice_get (filter (is_method_of d.row) rows) at) (sym (slice_get-map (method_due number d.row) (filter (is_method_of d.row) rows) at) ∙ ap (λ (k : CoreClass). slice_get k.methods at) d.due ∙ e)
     where
-      by : (o : Option Row) → option_map (method_due number d.row) o ≡ Some m → m.flags.is_native ≡ false
+      by : (o : Option Row) → option_map (method_due number d.row) o ≡ Some m → IsMethodDue d.row m
       by None q = absurd (none-some m q)
-      by (Some r) q = ap (λ (k : CoreMethod). k.flags.is_native) (sym (same_Some (method_due number d.row r) m q))
+      by (Some r) q = record { of = r; due = same_Some (method_due number d.row r) m q }
+
+  -- it is not native, and has no body
+  pub not-native : (c : CoreClass) → IsDue number c → (at : ℕ) (m : CoreMethod) → slice_get c.methods at ≡ Some m → m.flags.is_native ≡ false
+  not-native c d at m e = ap (λ (k : CoreMethod). k.flags.is_native) (sym (row-of c d at m e).due)
 
   pub no-body : (c : CoreClass) → IsDue number c → (at : ℕ) (m : CoreMethod) → slice_get c.methods at ≡ Some m → m.body ≡ None
-  no-body c d at m e = by (slice_get (filter (is_method_of d.row) rows) at) (sym (slice_get-map (method_due number d.row) (filter (is_method_of d.row) rows) at) ∙ ap (λ (k : CoreClass). slice_get k.methods at) d.due ∙ e)
-    where
-      by : (o : Option Row) → option_map (method_due number d.row) o ≡ Some m → m.body ≡ None
-      by None q = absurd (none-some m q)
-      by (Some r) q = ap (λ (k : CoreMethod). k.body) (sym (same_Some (method_due number d.row r) m q))
+  no-body c d at m e = ap (λ (k : CoreMethod). k.body) (sym (row-of c d at m e).due)
 
   pub no-initializer : (c : CoreClass) → IsDue number c → (at : ℕ) (i : CoreInitializer) → slice_get c.initializers at ≡ Some i → ⊥
   no-initializer c d at i e = none-some i (ap (λ (k : CoreClass). slice_get k.initializers at) d.due ∙ e)
