@@ -1,0 +1,3 @@
+pub mod Dimensions
+pub mod Initializing
+pub mod Listing
