@@ -1,0 +1,4 @@
+pub mod FinalVariables
+pub mod ConstantVariables
+pub mod Expressions
+pub mod Mentions
