@@ -1,0 +1,117 @@
+-- What the walk over a body knows at a place of it, and what it leaves behind: the scope of locals and local classes there
+-- (JLS 6.3, 14.2 to 14.4), all locals of the body so far, and what its expressions mention.
+use Rattle.std.specs.Prelude.{ℕ, Bool, List, [], ◌∷◌, ◌++◌, length, map, Option, if◌then◌else◌}
+use Rattle.std.specs.List.{list_any}
+use Rattle.je_base.specs.declared.span.NameId.{NameId}
+use Rattle.je_base.specs.declared.span.Span.{Span}
+use Rattle.je_core.specs.declared.program.Local.{Local as LocalOf}
+use Rattle.je_core.specs.Core.{Core, CoreStmt, Block, Do, Empty, core_stmts, stmt}
+use Rattle.je_ast.specs.declared.name.Identifier.{Identifier}
+use Rattle.je_ast.specs.Trees.{Expression}
+use Rattle.je_scopes.specs.Headers.{no_span, same_name}
+use Rattle.je_scopes.specs.SourceTypes.{SourceType}
+use Rattle.source_types.specs.Erasure.{erased}
+use Rattle.source_types.specs.Heads.{ClassHead}
+use Rattle.library_classes.specs.Numbers.{number_in}
+use Rattle.name_typing.specs.Program.{Constant, Frame, LocalVariable, Program}
+use Rattle.expression_typing.specs.FinalVariables.{Scope}
+use Rattle.expression_typing.specs.Mentions.{Mention, mentions}
+
+-- ---- what is met in a body: what an expression mentions, and local classes that are declared, each in its scope; that of a
+-- local class has the class itself (JLS 6.3)
+
+pub data Met : Type 0 where
+  mentioned : Scope → Mention → Met
+  declares : Scope → Identifier → Met
+
+-- all locals of the body so far, whose numbers are their places, and all that was met
+pub record Progress : Type 0 where
+  pub locals : List LocalOf
+  pub met : List Met
+
+abbrev pub with_met : List Met → Progress → Progress
+with_met met pr = record pr { met = pr.met ++ met }
+
+abbrev pub mentioned_in : Scope → Expression → List Met
+mentioned_in s e = map (mentioned s) (mentions e)
+
+-- behind an expression
+abbrev pub behind : Scope → Expression → Progress → Progress
+behind s e pr = with_met (mentioned_in s e) pr
+
+-- ---- scopes
+
+abbrev pub in_frame : Frame → Scope → Scope
+in_frame here s = record s { place = record (s.place) { here = here } }
+
+-- one local more; `is_given` says that it is final and has its value from here on
+abbrev pub given_if : Bool → ℕ → List ℕ → List ℕ
+given_if is_given n ns = if is_given then n ∷ ns else ns
+
+abbrev pub with_local : Bool → LocalVariable → Scope → Scope
+with_local is_given v s = record (in_frame (record (s.place.here) { locals = v ∷ s.place.here.locals }) s) { given = given_if is_given v.number s.given }
+
+abbrev pub with_local_class : ℕ → Scope → Scope
+with_local_class c s = in_frame (record (s.place.here) { local_classes = c ∷ s.place.here.local_classes }) s
+
+-- the locals of one place, and the local classes of another (JLS 6.3: a group of a `switch`)
+abbrev pub with_classes_of : Scope → Scope → Scope
+with_classes_of other s = in_frame (record (s.place.here) { local_classes = other.place.here.local_classes }) s
+
+-- a local of this name is in scope in the body itself (JLS 14.4.2)
+abbrev pub has_local : Scope → NameId → Bool
+has_local s x = list_any (λ (v : LocalVariable). same_name v.name x) s.place.here.locals
+
+-- ---- locals
+
+abbrev pub local_of : NameId → SourceType → Bool → ℕ → Option Constant → LocalVariable
+local_of x t is_final n constant = record { name = x; type = t; is_final = is_final; number = n; constant = constant }
+
+-- the name of a local that no source names
+abbrev pub no_name : Program → NameId
+no_name p = number_in p.source.texts []
+
+-- one more of the body
+abbrev pub with_number : List ClassHead → NameId → SourceType → Bool → Span → Progress → Progress
+with_number heads x t is_final span pr =
+    record pr { locals = pr.locals ++ record { name = x; ty = erased heads t; is_final = is_final; span = span } ∷ [] }
+
+abbrev pub next_number : Progress → ℕ
+next_number pr = length pr.locals
+
+-- ---- what a statement comes to
+
+-- Its code; a declaration of locals is a statement for each initializer, and that of a class none. The numbers of the locals that
+-- it declares in its block, the scope behind it in the block, and what was met so far.
+pub record Done : Type 0 where
+  pub code : List CoreStmt
+  pub numbers : List ℕ
+  pub scope : Scope
+  pub progress : Progress
+
+-- one statement, behind which the scope is as before it
+abbrev pub one : CoreStmt → Scope → Progress → Done
+one code s pr = record { code = code ∷ []; numbers = []; scope = s; progress = pr }
+
+abbrev pub nothing_done : Scope → Progress → Done
+nothing_done s pr = record { code = []; numbers = []; scope = s; progress = pr }
+
+-- one thing, and the rest of its block
+abbrev pub followed : Done → Done → Done
+followed d rest = record { code = d.code ++ rest.code; numbers = d.numbers ++ rest.numbers; scope = rest.scope; progress = rest.progress }
+
+abbrev pub first_of : List CoreStmt → CoreStmt
+first_of [] = stmt Empty no_span no_span
+first_of (c ∷ cs) = c
+
+-- of a statement that stands alone and is no declaration
+abbrev pub alone : Done → CoreStmt
+alone d = first_of d.code
+
+-- of the statements of a block, by its brackets
+abbrev pub block_of : Span → Span → Done → CoreStmt
+block_of opening closing d = stmt (Block d.numbers (core_stmts d.code)) opening closing
+
+-- an expression as a statement, which begins at the span (JLS 14.8)
+abbrev pub performed : Span → Core → CoreStmt
+performed start e = stmt (Do e) start start
