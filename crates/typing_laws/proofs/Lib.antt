@@ -1,0 +1,6 @@
+pub mod Values
+pub mod Nodes
+pub mod Operators
+pub mod Unary
+pub mod Literals
+mod Rows

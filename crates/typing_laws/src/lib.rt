@@ -1,0 +1,29 @@
+//! What steps of typing give fits where their parts do (`specs/Laws.antt`): `Fits` of `je_fitting`, of nodes with their source types.
+#![tactic(auto)]
+
+ghost use Rattle.typing_laws.specs.Laws.{LiteralsFit, LogicalOperationsFit, PlusFits, PrimitiveOperationsFit, UnaryOperationsFit};
+
+/// A literal fits.
+pub fn literals_fit()
+    ensures { LiteralsFit }
+{}
+
+/// A binary operator on numbers or booleans fits where its operands do.
+pub fn primitive_operations_fit()
+    ensures { PrimitiveOperationsFit }
+{}
+
+/// Unary minus, `~` and `!` fit where their operand does.
+pub fn unary_operations_fit()
+    ensures { UnaryOperationsFit }
+{}
+
+/// Unary plus fits where its operand does.
+pub fn plus_fits()
+    ensures { PlusFits }
+{}
+
+/// `&&` and `||` fit where their operands do.
+pub fn logical_operations_fit()
+    ensures { LogicalOperationsFit }
+{}
