@@ -1,0 +1,11 @@
+pub mod Enums
+pub mod Programs
+pub mod Places
+pub mod ConstantFields
+pub mod Captures
+pub mod Constructors
+pub mod Members
+pub mod Bridges
+pub mod Texts
+pub mod Classes
+pub mod Elaboration
