@@ -3,4 +3,7 @@ pub mod Nodes
 pub mod Operators
 pub mod Unary
 pub mod Literals
+pub mod Casts
+pub mod Erased
+pub mod Texts
 mod Rows

@@ -1,7 +1,7 @@
 //! What steps of typing give fits where their parts do (`specs/Laws.antt`): `Fits` of `je_fitting`, of nodes with their source types.
 #![tactic(auto)]
 
-ghost use Rattle.typing_laws.specs.Laws.{LiteralsFit, LogicalOperationsFit, PlusFits, PrimitiveOperationsFit, UnaryOperationsFit};
+ghost use Rattle.typing_laws.specs.Laws.{ConcatenationsFit, LiteralsFit, LogicalOperationsFit, PlusFits, PrimitiveCastsFit, PrimitiveOperationsFit, UnaryOperationsFit};
 
 /// A literal fits.
 pub fn literals_fit()
@@ -26,4 +26,14 @@ pub fn plus_fits()
 /// `&&` and `||` fit where their operands do.
 pub fn logical_operations_fit()
     ensures { LogicalOperationsFit }
+{}
+
+/// A cast to a primitive type fits where its operand does.
+pub fn primitive_casts_fit()
+    ensures { PrimitiveCastsFit }
+{}
+
+/// String concatenation fits where its operands do.
+pub fn concatenations_fit()
+    ensures { ConcatenationsFit }
 {}
