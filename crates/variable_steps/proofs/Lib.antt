@@ -1,0 +1,4 @@
+pub mod Captured
+pub mod Frames
+pub mod Readings
+pub mod Standing
