@@ -104,16 +104,22 @@ module _ (s : Setting) (c : ℕ) where
     interface earlier t
     interfaces_from (earlier ++ s.means c header t ∷ []) ts
 
-  abbrev pub declared_header : Declaration → Judged (Unit {0})
-  declared_header (tree.class_declaration ms id ps above interfaces body span) = do
+  abbrev pub class_header : List Modifier → List TypeParameter → Option TypeName → TypeNames → Judged (Unit {0})
+  class_header ms ps above interfaces = do
     class_modifiers what.Class ms
     bounds ps
     extends_if above
     interfaces_from [] interfaces
-  declared_header (tree.interface_declaration ms id ps interfaces body span) = do
+
+  abbrev pub interface_header : List Modifier → List TypeParameter → TypeNames → Judged (Unit {0})
+  interface_header ms ps interfaces = do
     class_modifiers what.Interface ms
     bounds ps
     interfaces_from [] interfaces
+
+  abbrev pub declared_header : Declaration → Judged (Unit {0})
+  declared_header (tree.class_declaration ms id ps above interfaces body span) = class_header ms ps above interfaces
+  declared_header (tree.interface_declaration ms id ps interfaces body span) = interface_header ms ps interfaces
   declared_header (tree.enum_declaration ms id constants span) = class_modifiers what.Enum ms
 
   -- the type of an anonymous class
@@ -136,6 +142,9 @@ module _ (s : Setting) (c : ℕ) where
   abbrev pub own_methods : List DeclaredMethod
   own_methods = methods_in (slice_get s.classes c)
 
+  abbrev pub member_modifiers : Declared → List Modifier → Judged (Unit {0})
+  member_modifiers what ms = refused BadModifier (bad_modifier what own_body ms)
+
   -- a variable of a field, whose name may have brackets behind it
   abbrev pub variable : List Modifier → TypeName → Identifier → ℕ → Judged (Unit {0})
   variable ms t id dims = do
@@ -150,7 +159,7 @@ module _ (s : Setting) (c : ℕ) where
 
   abbrev pub field : List Modifier → TypeName → Variables → Judged (Unit {0})
   field ms t vs = do
-    refused BadModifier (bad_modifier what.Field own_body ms)
+    member_modifiers what.Field ms
     well_written s.heads (s.means c (part_of (in_interface || has_static ms))) t
     variables ms t vs
 
@@ -163,7 +172,7 @@ module _ (s : Setting) (c : ℕ) where
   -- what is written of a method or a constructor before its body; it is the one at a place
   abbrev pub signature : Declared → ℕ → Part → List Modifier → Option TypeName → List FormalParameter → List QualifiedName → Judged (Unit {0})
   signature what at part ms result fs throws = do
-    refused BadModifier (bad_modifier what own_body ms)
+    member_modifiers what ms
     well_written_if s.heads (s.means c part) result
     formals part fs
     all_thrown s.heads (throws_in (slice_get own_methods at)) throws
