@@ -11,12 +11,13 @@ use Rattle.je_scopes.specs.SourceTypes.{SourceType, SourceTypes, plain, of_class
 use Rattle.source_types.specs.Erasure.{erased, erased_within}
 use Rattle.source_types.specs.Heads.{ClassHead, bound_of, variable_count}
 use Rattle.je_typing.specs.Typed.{is_void}
-use Rattle.typing_laws.specs.Fitting.{BoundsFit, is_class_or_variable}
+use Rattle.source_types.specs.Laws.{is_class_or_variable}
+use Rattle.typing_laws.specs.Fitting.{BoundsFit}
 
 abbrev of_plain : Base → ℕ → Ty
 of_plain b n = record { base = b; dims = n }
 
-abbrev is_class_base : Base → Bool
+abbrev pub is_class_base : Base → Bool
 is_class_base (base.Class c) = true
 is_class_base b = false
 
@@ -35,7 +36,7 @@ module _ (heads : List ClassHead) (bounds : BoundsFit heads) where
   bound-class steps variables (of_variable c at n) h = variables c at n
   bound-class steps variables (plain b n) h = absurd cc
 
-  variable-class : (steps c at n : ℕ) → is_class_base (erased_within heads steps (of_variable c at n)).base ≡ true
+  pub variable-class : (steps c at n : ℕ) → is_class_base (erased_within heads steps (of_variable c at n)).base ≡ true
   variable-class zero c at n = refl
   variable-class (suc steps) c at n = bound-class steps (λ d i m. variable-class steps d i m) (bound_of heads c at) (bounds c at)
 

@@ -6,4 +6,6 @@ pub mod Literals
 pub mod Casts
 pub mod Erased
 pub mod Texts
+pub mod Subtypes
 mod Rows
+mod HeadRows

@@ -1,6 +1,6 @@
 -- When an expression of the core program that has a type in the source fits where it stands. The constant strings of a program are known
 -- only when all of it is elaborated, so that is said for any, among which those that stand in the node stand once.
-use Rattle.std.specs.Prelude.{◌≡◌, Bool, true, false, ℕ, zero, List, count_by, nat_eq}
+use Rattle.std.specs.Prelude.{◌≡◌, Bool, true, ℕ, List, count_by, nat_eq}
 use Rattle.std.specs.Str.{bytes_eq}
 use Rattle.je_core.specs.Core.{CoreForm, CoreProgram, ty_of}
 use Rattle.je_core.specs.Core as core
@@ -8,7 +8,7 @@ use Rattle.je_fitting.specs.Expressions.{Body, Fits, are_there}
 use Rattle.plain_programs.specs.Nodes.{every}
 use Rattle.source_types.specs.Erasure.{erased}
 use Rattle.source_types.specs.Heads.{ClassHead, bound_of}
-use Rattle.je_scopes.specs.SourceTypes.{SourceType, of_class, of_variable}
+use Rattle.source_types.specs.Laws.{is_class_or_variable}
 use Rattle.je_typing.specs.Constants.{uses_of}
 use Rattle.je_typing.specs.Judged.{Judged, gives, faulty}
 use Rattle.je_typing.specs.Typed.{TypedNode}
@@ -32,12 +32,6 @@ abbrev pub Gives : {A : Type 0} → (A → Type 0) → Judged A → Type 0
 Gives P (gives a) = P a
 Gives P (faulty fault) = Unit {0}
 
--- The bound of a type variable is a class or a type variable (JLS 4.4).
-
-abbrev pub is_class_or_variable : SourceType → Bool
-is_class_or_variable (of_class c args zero) = true
-is_class_or_variable (of_variable c at zero) = true
-is_class_or_variable t = false
-
+-- the bound of a type variable is a class or a type variable (JLS 4.4)
 abbrev pub BoundsFit : List ClassHead → Type 0
 BoundsFit heads = (c at : ℕ) → is_class_or_variable (bound_of heads c at) ≡ true

@@ -1,6 +1,7 @@
 //! What steps of typing give fits where their parts do (`specs/Laws.antt`): `Fits` of `je_fitting`, of nodes with their source types.
 #![tactic(auto)]
 
+ghost use Rattle.typing_laws.specs.Correspondence.{SubtypesAreErased};
 ghost use Rattle.typing_laws.specs.Laws.{ConcatenationsFit, LiteralsFit, LogicalOperationsFit, PlusFits, PrimitiveCastsFit, PrimitiveOperationsFit, UnaryOperationsFit};
 
 /// A literal fits.
@@ -36,4 +37,9 @@ pub fn primitive_casts_fit()
 /// String concatenation fits where its operands do.
 pub fn concatenations_fit()
     ensures { ConcatenationsFit }
+{}
+
+/// A subtype in a source is erased to a subtype in the core program that has the classes of its headers.
+pub fn subtypes_are_erased()
+    ensures { SubtypesAreErased }
 {}
