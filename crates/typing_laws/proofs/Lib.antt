@@ -7,5 +7,6 @@ pub mod Casts
 pub mod Erased
 pub mod Texts
 pub mod Subtypes
+pub mod Assigned
 mod Rows
 mod HeadRows

@@ -85,7 +85,7 @@ module _ (p : CoreProgram) (body : Body) (heads : List ClassHead) where
   const-typed : {q : CoreProgram} (v : Value) (uses : List Use) (t : Ty) (span at : Span) → Fits q body (node (core.Const v uses) t span at) → HasType t (unless_null v)
   const-typed v uses t span at (fits.const h k) = null-or-typed v t h
 
-  value-typed : (n : Core) → ((texts : List (List ℕ)) → every (stands_once texts) n ≡ true → Fits (with_texts p texts) body n) → HasType (ty_of n) (constant_value n)
+  pub value-typed : (n : Core) → ((texts : List (List ℕ)) → every (stands_once texts) n ≡ true → Fits (with_texts p texts) body n) → HasType (ty_of n) (constant_value n)
   value-typed (node (core.Const v uses) t span at) fit = const-typed v uses t span at (fit [] refl)
   value-typed (node _ t span at) fit = tt
 

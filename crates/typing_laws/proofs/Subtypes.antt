@@ -43,15 +43,15 @@ from-map : {A B : Type 0} (f : A → B) (xs : List A) (u : B) → Contains (map 
 from-map f [] u q = absurd (contains-none u q)
 from-map f (x ∷ xs) u q = by_either (λ e. (x, contains-here x xs, e)) (λ r. let k = from-map f xs u r in (k.0, contains-later x k.0 xs k.1, k.2)) (contains-cases (f x) u (map f xs) q)
 
-or-left : (a b : Bool) → a ≡ true → (a || b) ≡ true
+pub or-left : (a b : Bool) → a ≡ true → (a || b) ≡ true
 or-left true b h = refl
 or-left false b h = absurd cc
 
-or-right : (a b : Bool) → b ≡ true → (a || b) ≡ true
+pub or-right : (a b : Bool) → b ≡ true → (a || b) ≡ true
 or-right true b h = refl
 or-right false b h = h
 
-either : (P : Type 0) (a b : Bool) → (a || b) ≡ true → (a ≡ true → P) → (b ≡ true → P) → P
+pub either : (P : Type 0) (a b : Bool) → (a || b) ≡ true → (a ≡ true → P) → (b ≡ true → P) → P
 either P true b h f g = f refl
 either P false b h f g = g h
 

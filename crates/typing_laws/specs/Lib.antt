@@ -1,3 +1,4 @@
 pub mod Fitting
 pub mod Correspondence
+pub mod Passing
 pub mod Laws

@@ -2,6 +2,7 @@
 #![tactic(auto)]
 
 ghost use Rattle.typing_laws.specs.Correspondence.{SubtypesAreErased};
+ghost use Rattle.typing_laws.specs.Passing.{AssignedValuesPass};
 ghost use Rattle.typing_laws.specs.Laws.{ConcatenationsFit, LiteralsFit, LogicalOperationsFit, PlusFits, PrimitiveCastsFit, PrimitiveOperationsFit, UnaryOperationsFit};
 
 /// A literal fits.
@@ -42,4 +43,9 @@ pub fn concatenations_fit()
 /// A subtype in a source is erased to a subtype in the core program that has the classes of its headers.
 pub fn subtypes_are_erased()
     ensures { SubtypesAreErased }
+{}
+
+/// A value that is assigned to a variable fits where it stands, and is of the variable's type or of a subtype.
+pub fn assigned_values_pass()
+    ensures { AssignedValuesPass }
 {}
