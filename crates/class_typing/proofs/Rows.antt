@@ -1,5 +1,5 @@
--- Worked rows of whole programs: which fault is the first, what classes capture, constant fields, constructors that call each other,
--- and methods that are reached through others.
+-- Worked rows of whole programs: which fault is the first, what classes capture, constant fields, constructors that
+-- call each other, and methods that are reached through others.
 use Rattle.std.proofs.Common.{◌≡◌, refl, ℕ, List}
 use Rattle.std.specs.Prelude.{◌+◌, Bool, true, false, [], ◌∷◌, Option, Some, None, pos, codes, drop, is_some, length, map}
 use Rattle.je_base.specs.declared.span.Span.{Span}
@@ -72,7 +72,9 @@ id x n = record { name = record { 0 = x }; span = at n }
 
 -- the names that are written, and behind them the library's words
 abbrev words : List (List ℕ)
-words = codes "A" ∷ codes "B" ∷ codes "f" ∷ codes "v" ∷ codes "x" ∷ codes "y" ∷ codes "compareTo" ∷ codes "Object" ∷ codes "Comparable" ∷ library_words
+words =
+    codes "A" ∷ codes "B" ∷ codes "f" ∷ codes "v" ∷ codes "x" ∷ codes "y" ∷ codes "compareTo" ∷ codes "Object" ∷ codes
+    "Comparable" ∷ library_words
 
 abbrev program : List Declaration → Source
 program ds = source words (record { imports = []; declarations = ds } ∷ [])
@@ -102,7 +104,9 @@ formal t is_final = record { is_final = is_final; declared = t; name = id 3 6; d
 -- a method whose body returns a value
 abbrev returns : List Modifier → TypeName → ℕ → List FormalParameter → Expression → Member
 returns ms t x fs e =
-    tree.method ms (Some t) (id x 4) fs [] (tree.a_block (at 5) (tree.more_statements (tree.return (at 6) (tree.an_expression e) whole) tree.no_statements) (at 20)) whole
+    tree.method ms (Some t) (id x 4) fs []
+    (tree.a_block (at 5) (tree.more_statements (tree.return (at 6) (tree.an_expression e) whole)
+    tree.no_statements) (at 20)) whole
 
 abbrev name_at : ℕ → ℕ → Expression
 name_at x n = tree.name (id x n)
@@ -126,12 +130,14 @@ a_body : elaborated (program (class_a (returns [] int 2 [] (name_at 3 7) ∷ [])
 unfolding library_words class_words member_words further_words library_class object_class settled sites erased is_subtype supertypes declared_class converted assigned bind check need number_literal literal_of primitive_operation binary superinterface anonymous_super well_placed bounded methods_above inherited may_override good_override good_implementations all_implemented no_clash no_constructor_clash no_inherited_clash bad_modifier class_heads found_field static_field find_field name_before assigned_select select variable_named variable_node taken not_forward assigned_name updated_name simple_name used constructors_in constructor_for anonymous_creation superclass_constructor_call implicit_constructor_call choice chosen class_signatures signatures rows all_due library_declared declared_classes returned_value variable_constant bridges captured_locals captures is_blank constant_by no_cycle elaborated class_members round classes heads plain_program texts superclass own_constructor_call
 a_body = refl
 
-headers_first : elaborated (program (class_a (returns [] int 2 [] (name_at 3 7) ∷ []) ∷ class 1 30 None (more_types (named 0 31 no_types) no_types) [] ∷ [])) ≡ breaks BadSuper (at 31)
+headers_first : elaborated (program
+    (class_a (returns [] int 2 [] (name_at 3 7) ∷ []) ∷ class 1 30 None (more_types (named 0 31 no_types) no_types) []
+    ∷ [])) ≡ breaks BadSuper (at 31)
 unfolding library_words class_words member_words further_words library_class object_class settled sites erased is_subtype supertypes declared_class converted assigned bind check need number_literal literal_of primitive_operation binary superinterface anonymous_super well_placed bounded methods_above inherited may_override good_override good_implementations all_implemented no_clash no_constructor_clash no_inherited_clash bad_modifier class_heads found_field static_field find_field name_before assigned_select select variable_named variable_node taken not_forward assigned_name updated_name simple_name used constructors_in constructor_for anonymous_creation superclass_constructor_call implicit_constructor_call choice chosen class_signatures signatures rows all_due library_declared declared_classes returned_value variable_constant bridges captured_locals captures is_blank constant_by no_cycle elaborated class_members round classes heads plain_program texts superclass own_constructor_call
 headers_first = refl
 
--- ---- class A { Object f(final int v) { return new Object() { int f() { return v; } }; } }: the class behind `new` has the instance
--- round it and v, and captures one local
+-- ---- class A { Object f(final int v) { return new Object() { int f() { return v; } }; } }: the class behind `new`
+-- has the instance round it and v, and captures one local
 
 abbrev captured : CoreClass → ℕ × List ℕ
 captured c = (c.captured, map number_of c.fields)
@@ -139,8 +145,10 @@ captured c = (c.captured, map number_of c.fields)
     number_of : CoreField → ℕ
     number_of f = f.name.0
 
-a_captured_local : of_guests captured (elaborated (program (class_a (returns [] (named 7 3 no_types) 2 (formal int true ∷ [])
-    (tree.new_anonymous (at 40) (named 7 41 no_types) tree.no_expressions (members (returns [] int 2 [] (name_at 3 42) ∷ [])) whole) ∷ []) ∷ [])))
+a_captured_local : of_guests captured
+    (elaborated (program (class_a (returns [] (named 7 3 no_types) 2 (formal int true ∷ [])
+    (tree.new_anonymous (at 40) (named 7 41 no_types) tree.no_expressions
+    (members (returns [] int 2 [] (name_at 3 42) ∷ [])) whole) ∷ []) ∷ [])))
     ≡ gives ((0, []) ∷ (1, 9 ∷ 3 ∷ []) ∷ [])
 unfolding library_words class_words member_words further_words library_class object_class settled sites erased is_subtype supertypes declared_class converted assigned bind check need number_literal literal_of primitive_operation binary superinterface anonymous_super well_placed bounded methods_above inherited may_override good_override good_implementations all_implemented no_clash no_constructor_clash no_inherited_clash bad_modifier class_heads found_field static_field find_field name_before assigned_select select variable_named variable_node taken not_forward assigned_name updated_name simple_name used constructors_in constructor_for anonymous_creation superclass_constructor_call implicit_constructor_call choice chosen class_signatures signatures rows all_due library_declared declared_classes returned_value variable_constant bridges captured_locals captures is_blank constant_by no_cycle elaborated class_members round classes heads plain_program texts superclass own_constructor_call
 a_captured_local = refl
@@ -148,7 +156,9 @@ a_captured_local = refl
 -- ---- class A { static final int x = A.y + 1; static final int y = 2; }, and with A.x for 2
 
 abbrev constant : ℕ → Expression → Member
-constant x e = tree.field (with word.Static word.Final) int (tree.more_variables (id x 4) 0 (tree.an_expression e) tree.no_variables) whole
+constant x e =
+    tree.field (with word.Static word.Final) int
+    (tree.more_variables (id x 4) 0 (tree.an_expression e) tree.no_variables) whole
 
 abbrev of_a : ℕ → Expression
 of_a x = tree.select (name_at 0 10) (id x 11) whole
@@ -162,29 +172,36 @@ constants c = map is_constant c.fields
     is_constant : CoreField → Bool
     is_constant f = is_some f.constant
 
-by_a_later_one : of_guests constants (elaborated (program (class_a (constant 4 (next (of_a 5)) ∷ constant 5 (number 2) ∷ []) ∷ []))) ≡ gives ((true ∷ true ∷ []) ∷ [])
+by_a_later_one : of_guests constants
+    (elaborated (program (class_a (constant 4 (next (of_a 5)) ∷ constant 5 (number 2) ∷ []) ∷ []))) ≡ gives
+    ((true ∷ true ∷ []) ∷ [])
 unfolding library_words class_words member_words further_words library_class object_class settled sites erased is_subtype supertypes declared_class converted assigned bind check need number_literal literal_of primitive_operation binary superinterface anonymous_super well_placed bounded methods_above inherited may_override good_override good_implementations all_implemented no_clash no_constructor_clash no_inherited_clash bad_modifier class_heads found_field static_field find_field name_before assigned_select select variable_named variable_node taken not_forward assigned_name updated_name simple_name used constructors_in constructor_for anonymous_creation superclass_constructor_call implicit_constructor_call choice chosen class_signatures signatures rows all_due library_declared declared_classes returned_value variable_constant bridges captured_locals captures is_blank constant_by no_cycle elaborated class_members round classes heads plain_program texts superclass own_constructor_call
 by_a_later_one = refl
 
-by_each_other : of_guests constants (elaborated (program (class_a (constant 4 (next (of_a 5)) ∷ constant 5 (of_a 4) ∷ []) ∷ []))) ≡ gives ((false ∷ false ∷ []) ∷ [])
+by_each_other : of_guests constants
+    (elaborated (program (class_a (constant 4 (next (of_a 5)) ∷ constant 5 (of_a 4) ∷ []) ∷ []))) ≡ gives
+    ((false ∷ false ∷ []) ∷ [])
 unfolding library_words class_words member_words further_words library_class object_class settled sites erased is_subtype supertypes declared_class converted assigned bind check need number_literal literal_of primitive_operation binary superinterface anonymous_super well_placed bounded methods_above inherited may_override good_override good_implementations all_implemented no_clash no_constructor_clash no_inherited_clash bad_modifier class_heads found_field static_field find_field name_before assigned_select select variable_named variable_node taken not_forward assigned_name updated_name simple_name used constructors_in constructor_for anonymous_creation superclass_constructor_call implicit_constructor_call choice chosen class_signatures signatures rows all_due library_declared declared_classes returned_value variable_constant bridges captured_locals captures is_blank constant_by no_cycle elaborated class_members round classes heads plain_program texts superclass own_constructor_call
 by_each_other = refl
 
 -- ---- class A { A() { this(1); } A(int v) { this(); } }, and with `super()`
 
 abbrev constructor : List FormalParameter → Bool → ℕ → tree.Expressions → Member
-constructor fs is_super n args = tree.constructor [] (id 0 4) fs [] (tree.explicit is_super (at n) args) (at 5) tree.no_statements (at 20) whole
+constructor fs is_super n args =
+    tree.constructor [] (id 0 4) fs [] (tree.explicit is_super (at n) args) (at 5) tree.no_statements (at 20) whole
 
 abbrev one_argument : tree.Expressions
 one_argument = tree.more_expressions (number 1) tree.no_expressions
 
-constructors_in_a_cycle : elaborated (program (class_a (constructor [] false 50 one_argument ∷ constructor (formal int false ∷ []) false 51 tree.no_expressions ∷ []) ∷ []))
+constructors_in_a_cycle : elaborated
+    (program (class_a (constructor [] false 50 one_argument ∷ constructor (formal int false ∷ []) false 51
+    tree.no_expressions ∷ []) ∷ []))
     ≡ breaks CtorCycle (at 50)
 unfolding library_words class_words member_words further_words library_class object_class settled sites erased is_subtype supertypes declared_class converted assigned bind check need number_literal literal_of primitive_operation binary superinterface anonymous_super well_placed bounded methods_above inherited may_override good_override good_implementations all_implemented no_clash no_constructor_clash no_inherited_clash bad_modifier class_heads found_field static_field find_field name_before assigned_select select variable_named variable_node taken not_forward assigned_name updated_name simple_name used constructors_in constructor_for anonymous_creation superclass_constructor_call implicit_constructor_call choice chosen class_signatures signatures rows all_due library_declared declared_classes returned_value variable_constant bridges captured_locals captures is_blank constant_by no_cycle elaborated class_members round classes heads plain_program texts superclass own_constructor_call
 constructors_in_a_cycle = refl
 
--- ---- class A implements Comparable<A> { public int compareTo(A v) { return 1; } }: the method of the erased parameter is reached
--- through the interface's, also in class B extends A { }
+-- ---- class A implements Comparable<A> { public int compareTo(A v) { return 1; } }: the method of the erased
+-- parameter is reached through the interface's, also in class B extends A { }
 
 abbrev bridged : CoreClass → List (ℕ × ℕ)
 bridged c = map places c.bridges
@@ -196,7 +213,8 @@ abbrev public : List Modifier
 public = record { kind = word.Public; span = at 2 } ∷ []
 
 a_bridge : of_guests bridged (elaborated (program (
-    class 0 1 None (more_types (named 8 30 (more_types (named 0 31 no_types) no_types)) no_types) (returns public int 6 (formal (named 0 32 no_types) false ∷ []) (number 1) ∷ [])
+    class 0 1 None (more_types (named 8 30 (more_types (named 0 31 no_types) no_types)) no_types)
+    (returns public int 6 (formal (named 0 32 no_types) false ∷ []) (number 1) ∷ [])
     ∷ class 1 33 (Some (named 0 34 no_types)) no_types [] ∷ [])))
     ≡ gives (((0, 0) ∷ []) ∷ ((0, 0) ∷ []) ∷ [])
 unfolding library_words class_words member_words further_words library_class object_class settled sites erased is_subtype supertypes declared_class converted assigned bind check need number_literal literal_of primitive_operation binary superinterface anonymous_super well_placed bounded methods_above inherited may_override good_override good_implementations all_implemented no_clash no_constructor_clash no_inherited_clash bad_modifier class_heads found_field static_field find_field name_before assigned_select select variable_named variable_node taken not_forward assigned_name updated_name simple_name used constructors_in constructor_for anonymous_creation superclass_constructor_call implicit_constructor_call choice chosen class_signatures signatures rows all_due library_declared declared_classes returned_value variable_constant bridges captured_locals captures is_blank constant_by no_cycle elaborated class_members round classes heads plain_program texts superclass own_constructor_call

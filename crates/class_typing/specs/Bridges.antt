@@ -1,5 +1,5 @@
--- Methods that are reached through others (JLS 8.4.8, 15.12.4.5): where a class has for a method one with the same parameter types, whose
--- erasures are others, a call of the first runs the second.
+-- Methods that are reached through others (JLS 8.4.8, 15.12.4.5): where a class has for a method one with the same
+-- parameter types, whose erasures are others, a call of the first runs the second.
 use Rattle.std.specs.Prelude.{ℕ, Bool, not, ◌&&◌, ◌||◌, List, [], ◌∷◌, map, filter, flat_map, Option, Some, None, nat_lt, nat_eq, if◌then◌else◌}
 use Rattle.std.specs.List.{find}
 use Rattle.je_core.specs.declared.program.Bridge.{Bridge}
@@ -31,14 +31,17 @@ module _ (heads : List ClassHead) (classes : List DeclaredClass) (c : ℕ) where
   -- it can run for the other one, which is erased to other parameter types
   abbrev pub runs_for : Method → Method → Bool
   runs_for n m =
-      not (m.is_abstract || m.declared.flags.is_static) && is_subsignature heads m n && not (same_types (erased_parameters m) (erased_parameters n))
+      not (m.is_abstract || m.declared.flags.is_static)
+      && is_subsignature heads m n
+      && not (same_types (erased_parameters m) (erased_parameters n))
 
   abbrev pub is_instance_method : Method → Bool
   is_instance_method n = not n.declared.flags.is_static
 
   abbrev pub bridge_to : Method → Option Method → List Bridge
   bridge_to n None = []
-  bridge_to n (Some m) = record { method = (class_numbered n.holder, n.place); by = (class_numbered m.holder, m.place) } ∷ []
+  bridge_to n (Some m) =
+      record { method = (class_numbered n.holder, n.place); by = (class_numbered m.holder, m.place) } ∷ []
 
   abbrev pub bridge_from : Method → List Bridge
   bridge_from n = bridge_to n (find (runs_for n) (has_methods heads classes c))

@@ -1,6 +1,6 @@
--- Captured locals (JLS 8.1.3), and what a new object gets from round its class (JLS 8.8.7.1, 15.9.2). A class captures each local from
--- outside it that a name in its body means and that is no constant, and each one that a class inside it captures, or one of which its
--- body makes objects, or one directly above it.
+-- Captured locals (JLS 8.1.3), and what a new object gets from round its class (JLS 8.8.7.1, 15.9.2). A class
+-- captures each local from outside it that a name in its body means and that is no constant, and each one that a
+-- class inside it captures, or one of which its body makes objects, or one directly above it.
 use Rattle.std.specs.Prelude.{ℕ, zero, suc, Bool, true, false, not, ◌&&◌, ◌||◌, List, [], ◌∷◌, ◌++◌, length, map, filter, flat_map, Option, Some, None, is_none, nat_eq, if◌then◌else◌}
 use Rattle.std.specs.List.{list_any}
 use Rattle.je_core.specs.declared.types.ClassId.{ClassId}
@@ -71,7 +71,9 @@ module _ (p : Program) (met : List Met) where
   -- the classes inside it, those of which it makes objects, and those directly above it
   abbrev pub classes_near : ℕ → List ℕ
   classes_near c =
-      filter (is_directly_in c) (below (length p.source.sites)) ++ flat_map classes_made (met_in c) ++ flat_map class_of_type (supers_of p.heads c)
+      filter (is_directly_in c) (below (length p.source.sites))
+      ++ flat_map classes_made (met_in c)
+      ++ flat_map class_of_type (supers_of p.heads c)
 
   -- ---- JLS 8.1.3
 
@@ -83,7 +85,8 @@ module _ (p : Program) (met : List Met) where
   captures_within zero owner local c = false
   captures_within (suc n) owner local c =
       is_outside c owner
-      && (list_any (is_of owner local) (flat_map locals_met (met_in c)) || list_any (captures_within n owner local) (classes_near c))
+      && (list_any (is_of owner local) (flat_map locals_met (met_in c))
+      || list_any (captures_within n owner local) (classes_near c))
 
   -- the locals in scope where a class stands, in order of their declarations
   abbrev pub locals_of_frame : Frame → List CapturedLocal
@@ -112,7 +115,8 @@ module _ (p : Program) (captured : ℕ → List CapturedLocal) (round_of : ℕ �
 
   -- a local of the body itself, or what the class of the body keeps of one further out
   abbrev pub own_or_kept : Place → CapturedLocal → Bool → ClassId → ℕ → CoreCapture
-  own_or_kept place l true class field = record { class = class; field = field; local = Some l.variable.number; path = [] }
+  own_or_kept place l true class field =
+      record { class = class; field = field; local = Some l.variable.number; path = [] }
   own_or_kept place l false class field = record {
     class = class;
     field = field;
@@ -130,7 +134,8 @@ module _ (p : Program) (captured : ℕ → List CapturedLocal) (round_of : ℕ �
   abbrev pub local_captures : Place → ℕ → ℕ → List CapturedLocal → List CoreCapture
   local_captures place c field [] = []
   local_captures place c field (l ∷ ls) =
-      own_or_kept place l (nat_eq place.here.class l.owner) (class_numbered c) field ∷ local_captures place c (suc field) ls
+      own_or_kept place l (nat_eq place.here.class l.owner) (class_numbered c) field
+      ∷ local_captures place c (suc field) ls
 
   abbrev pub own_captures : Place → ℕ → List (ClassId × ℕ) → List CoreCapture
   own_captures place c way = outer_capture c way ++ local_captures place c (length (outer_capture c way)) (captured c)
@@ -138,13 +143,15 @@ module _ (p : Program) (captured : ℕ → List CapturedLocal) (round_of : ℕ �
   -- the class directly above one of a program, if it is one too
   abbrev pub first_class : List SourceType → Option ℕ
   first_class (of_class d args n ∷ ts) =
-      if is_guest (site_at p.source.sites d).written && not (is_interface_sort (site_at p.source.sites d).sort) then Some d else None
+      if is_guest (site_at p.source.sites d).written && not (is_interface_sort (site_at p.source.sites d).sort) then Some d
+      else None
   first_class ts = None
 
   abbrev pub superclass : ℕ → Option ℕ
   superclass c = first_class (supers_of p.heads c)
 
-  -- those of the classes above come first; the instance round such a class is looked for from the one round the class below it
+  -- those of the classes above come first; the instance round such a class is looked for from the one round the class
+  -- below it
   abbrev pub captures_upwards : ℕ → Place → Option ℕ → List (ClassId × ℕ) → List CoreCapture
   captures_upwards n place None way = []
   captures_upwards zero place (Some c) way = []
@@ -155,6 +162,10 @@ module _ (p : Program) (captured : ℕ → List CapturedLocal) (round_of : ℕ �
       way_above None = []
       way_above (Some d) = way_until (is_round p d) (round_of c)
 
+  abbrev pub guest_captures : Place → ℕ → List CoreCapture
+  guest_captures place c =
+      captures_upwards (length p.source.sites) place (Some c) (way_until (is_round p c) (frames place))
+
   unfoldable pub captures : Place → ℕ → List CoreCapture
   captures place c =
-      if is_guest (site_at p.source.sites c).written then captures_upwards (length p.source.sites) place (Some c) (way_until (is_round p c) (frames place)) else []
+      if is_guest (site_at p.source.sites c).written then guest_captures place c else []

@@ -74,10 +74,19 @@ module _ (p : Program) (captured : ℕ → List CapturedLocal) (c : ℕ) where
   enum_names is_enum = if is_enum then number p.source (codes "name") ∷ number p.source (codes "ordinal") ∷ [] else []
 
   abbrev pub names_before : List NameId
-  names_before = outer_names (enclosing p.source c) ++ map captured_name (captured c) ++ enum_names (is_enum_sort site.sort)
+  names_before =
+      outer_names (enclosing p.source c) ++ map captured_name (captured c) ++ enum_names (is_enum_sort site.sort)
 
   abbrev pub hidden_field : NameId → SourceType → CoreField
-  hidden_field x t = record { name = x; span = span_in site.written; ty = erased p.heads t; is_static = false; is_final = true; access = access.Hidden; constant = None }
+  hidden_field x t = record {
+    name = x;
+    span = span_in site.written;
+    ty = erased p.heads t;
+    is_static = false;
+    is_final = true;
+    access = access.Hidden;
+    constant = None;
+  }
 
   abbrev pub hidden_from : List NameId → List SourceType → List CoreField
   hidden_from (x ∷ xs) (t ∷ ts) = hidden_field x t ∷ hidden_from xs ts

@@ -1,5 +1,5 @@
--- Which fields are constant variables (JLS 4.12.4, 15.28), and which final fields are blank (JLS 8.3.1.2). A field whose initializer
--- leads back to itself is no constant.
+-- Which fields are constant variables (JLS 4.12.4, 15.28), and which final fields are blank (JLS 8.3.1.2). A field
+-- whose initializer leads back to itself is no constant.
 use Rattle.std.specs.Prelude.{ℕ, zero, suc, Bool, true, false, List, [], ◌∷◌, ◌++◌, length, map, Option, Some, None, slice_get, unwrap_or, if◌then◌else◌}
 use Rattle.std.specs.List.{sum_by}
 use Rattle.je_core.specs.Core.{Core, CoreClass, CoreField, CoreForm, Const, Text, form_of}
@@ -71,7 +71,8 @@ fields_in None = []
 fields_in (Some c) = c.fields
 
 abbrev pub library_constant : List (List ℕ) → Member → Option Constant
-library_constant texts m = constant_of_field (slice_get (fields_in (slice_get (all_due (number_in texts)) m.class.0)) m.at)
+library_constant texts m =
+    constant_of_field (slice_get (fields_in (slice_get (all_due (number_in texts)) m.class.0)) m.at)
 
 -- ---- constants of a program, of whose classes the hidden fields and the bodies round them are known
 
@@ -86,7 +87,10 @@ nothing_known = record { captures = λ place c. []; is_blank = λ m. false }
 -- in the initializer of a field, before which so many stand
 abbrev pub in_initializer : Bool → ℕ → ℕ → List Frame → Scope
 in_initializer is_static c at round = record {
-  place = record { here = member_frame c (context_of is_static) (Some (record { is_static = is_static; declared = at })) []; round = round };
+  place = record {
+    here = member_frame c (context_of is_static) (Some (record { is_static = is_static; declared = at })) [];
+    round = round;
+  };
   is_constructor = false;
   given = [];
 }
@@ -96,8 +100,11 @@ module _ (p : Program) (hidden : ℕ → ℕ) (round : ℕ → List Frame) where
   hidden_values zero = []
   hidden_values (suc n) = unwritten ∷ hidden_values n
 
+  abbrev pub field_values : ℕ → List FieldValue
+  field_values c = hidden_values (hidden c) ++ written_values (site_at p.source.sites c).written
+
   abbrev pub field_value : Member → FieldValue
-  field_value m = unwrap_or (slice_get (hidden_values (hidden m.class.0) ++ written_values (site_at p.source.sites m.class.0).written) m.at) unwritten
+  field_value m = unwrap_or (slice_get (field_values m.class.0) m.at) unwritten
 
   abbrev pub is_without : FieldValue → Bool
   is_without no_value = true
@@ -107,16 +114,20 @@ module _ (p : Program) (hidden : ℕ → ℕ) (round : ℕ → List Frame) where
   unfoldable pub is_blank : Member → Bool
   is_blank m = is_without (field_value m)
 
+  abbrev pub scope_of : DeclaredField → Member → Scope
+  scope_of f m = in_initializer f.is_static m.class.0 m.at (round m.class.0)
+
   abbrev pub constant_by : (Member → Option Constant) → Member → Option DeclaredField → FieldValue → Option Constant
   constant_by known m (Some f) (by e) =
-      if_final f (value (expression (record p { constants = known }) nothing_known (in_initializer f.is_static m.class.0 m.at (round m.class.0)) (initial f.ty) e))
+      if_final f (value (expression (record p { constants = known }) nothing_known (scope_of f m) (initial f.ty) e))
   constant_by known m f v = None
 
   -- where so many fields on the way to it are
   abbrev pub constant_within : ℕ → Member → Option Constant
   constant_within zero m = None
   constant_within (suc n) m =
-      if is_guest (site_at p.source.sites m.class.0).written then constant_by (constant_within n) m (field_at p.classes m) (field_value m)
+      if is_guest (site_at p.source.sites m.class.0).written
+      then constant_by (constant_within n) m (field_at p.classes m) (field_value m)
       else library_constant p.source.texts m
 
   abbrev pub field_count : DeclaredClass → ℕ

@@ -1,5 +1,5 @@
--- Constructors (JLS 8.8): the call of another one at the head, the default one, that of an anonymous class, and those that lead back
--- to themselves.
+-- Constructors (JLS 8.8): the call of another one at the head, the default one, that of an anonymous class, and those
+-- that lead back to themselves.
 use Rattle.std.specs.Prelude.{ℕ, zero, suc, Bool, true, false, ◌||◌, List, [], ◌∷◌, length, map, Option, Some, None, slice_get, nat_eq}
 use Rattle.std.specs.List.{find}
 use Rattle.je_base.specs.declared.span.NameId.{NameId}
@@ -67,8 +67,8 @@ module _ (p : Program) (k : Known) where
     call ← constructor_call p is_super s.place word args
     gives (call ∷ [])
 
-  -- ---- the constructor of an anonymous class (JLS 15.9.5.1): its parameters are those of the superclass's constructor that was
-  -- chosen behind `new`, to which it hands them on
+  -- ---- the constructor of an anonymous class (JLS 15.9.5.1): its parameters are those of the superclass's
+  -- constructor that was chosen behind `new`, to which it hands them on
 
   abbrev pub chosen_for : Place → Span → TypeName → List TypedNode → Judged Candidate
   chosen_for place word t args = constructor_for p place.here.class (made_of p (anonymous_type p word t)) word args
@@ -95,7 +95,8 @@ locals_from span n (t ∷ ts) = node (Local n) t span span ∷ locals_from span 
 
 abbrev pub handed_on : Program → Place → Span → Candidate → CoreStmt
 handed_on p place span m =
-    performed span (node (CallExact (a_core (this_node place span)) (class_numbered m.class) m.place (cores (locals_from span 0 (declared_parameters p m)))) void span span)
+    performed span (node (CallExact (a_core (this_node place span)) (class_numbered m.class) m.place
+    (cores (locals_from span 0 (declared_parameters p m)))) void span span)
 
 -- ---- a constructor that no source writes (JLS 8.8.9, 15.9.5.1)
 
@@ -143,7 +144,8 @@ no_call (Some c) = breaks CtorCycle c.word
 
 -- of a constructor at a place, whose head came to these calls
 abbrev pub own_calls : ℕ → ConstructorInvocation → List TypedNode → List OwnCall
-own_calls at (tree.explicit false word es) calls = map (λ (t : TypedNode). record { place = at; word = word; to = place_called (form_of t.node) }) calls
+own_calls at (tree.explicit false word es) calls =
+    map (λ (t : TypedNode). record { place = at; word = word; to = place_called (form_of t.node) }) calls
 own_calls at call calls = []
 
 unfoldable pub no_cycle : List OwnCall → Judged (Unit {0})

@@ -1,6 +1,7 @@
--- The core program of all units, or the first fault of a type: headers and signatures of all classes in reading order, and then the
--- bodies of all classes in that order, those of a class inside another one behind the whole of that one (JLS 8, 9). Bodies are walked
--- twice: what each class captures is known when all bodies were met, and then their code is.
+-- The core program of all units, or the first fault of a type: headers and signatures of all classes in reading
+-- order, and then the bodies of all classes in that order, those of a class inside another one behind the whole of
+-- that one (JLS 8, 9). Bodies are walked twice: what each class captures is known when all bodies were met, and then
+-- their code is.
 use Rattle.std.specs.Prelude.{ℕ, zero, suc, ◌-◌, Bool, false, List, [], ◌∷◌, ◌++◌, length, Option, Some, None, is_some}
 use Rattle.std.specs.List.{position}
 use Rattle.je_base.specs.declared.span.NameId.{NameId}
@@ -49,7 +50,10 @@ module _ (source : Source) where
       let p = plain_program source captured in
       record {
         program = record p { constants = constant p (hidden_count captured) (round p met) };
-        known = record { captures = captures p captured (round p met); is_blank = is_blank p (hidden_count captured) (round p met) };
+        known = record {
+          captures = captures p captured (round p met);
+          is_blank = is_blank p (hidden_count captured) (round p met);
+        };
         round = round p met;
       }
 

@@ -1,5 +1,5 @@
--- Enums (JLS 8.9): a final class directly below Object whose objects are its constants, each with its name and its place in two
--- hidden fields, and the methods that no source writes.
+-- Enums (JLS 8.9): a final class directly below Object whose objects are its constants, each with its name and its
+-- place in two hidden fields, and the methods that no source writes.
 use Rattle.std.specs.Prelude.{ℕ, suc, pos, ◌+◌, Bool, true, false, List, [], ◌∷◌, Some, codes}
 use Rattle.je_base.specs.declared.span.NameId.{NameId}
 use Rattle.je_base.specs.declared.span.Span.{Span}
@@ -23,7 +23,14 @@ use Rattle.je_typing.specs.Typed.{string_type}
 -- ---- what an enum declares without words of its own
 
 abbrev pub flags : Access → Bool → Flags
-flags a is_static = record { is_static = is_static; is_final = false; is_abstract = false; is_native = false; is_finalizer = false; access = a }
+flags a is_static = record {
+  is_static = is_static;
+  is_final = false;
+  is_abstract = false;
+  is_native = false;
+  is_finalizer = false;
+  access = a;
+}
 
 -- the hidden fields: the name and the place of a constant
 abbrev pub hidden_types : List SourceType
@@ -102,19 +109,23 @@ module _ (number : List ℕ → NameId) (texts : List (List ℕ)) (c : ℕ) (spa
   -- the constants in order, from a place on
   abbrev pub constants_from : ℕ → List Identifier → List Core
   constants_from at [] = []
-  constants_from at (id ∷ ids) = enum_node (Static no_core (class_numbered c) (first_constant + at)) enum_ty ∷ constants_from (suc at) ids
+  constants_from at (id ∷ ids) =
+      enum_node (Static no_core (class_numbered c) (first_constant + at)) enum_ty ∷ constants_from (suc at) ids
 
   abbrev pub array_ty : Ty
   array_ty = record { base = base.Class (class_numbered c); dims = 1 }
 
   abbrev pub enum_code : List CoreMethod
   enum_code =
-      enum_method (codes "new") (string ∷ int ∷ []) void (flags access.Private false) (parameter string ∷ parameter int ∷ [])
+      enum_method (codes "new") (string ∷ int ∷ []) void (flags access.Private false)
+      (parameter string ∷ parameter int ∷ [])
       (enum_body (kept name_place string ∷ kept ordinal_place int ∷ []))
       ∷ enum_method (codes "name") [] string (flags access.Public false) [] (returning (own_field name_place string))
-      ∷ enum_method (codes "toString") [] string (flags access.Public false) [] (returning (own_field name_place string))
+      ∷ enum_method (codes "toString") [] string (flags access.Public false) []
+      (returning (own_field name_place string))
       ∷ enum_method (codes "ordinal") [] int (flags access.Public false) [] (returning (own_field ordinal_place int))
-      ∷ enum_method (codes "values") [] array_ty (flags access.Public true) [] (returning (enum_node (ArrayOf (cores (constants_from 0 constants))) array_ty))
+      ∷ enum_method (codes "values") [] array_ty (flags access.Public true) []
+      (returning (enum_node (ArrayOf (cores (constants_from 0 constants))) array_ty))
       ∷ []
 
   -- ---- each constant is made with its name and its place
@@ -123,14 +134,20 @@ module _ (number : List ℕ → NameId) (texts : List (List ℕ)) (c : ℕ) (spa
   made at id = node (New (class_numbered c) 0 (cores arguments) [] id.span) enum_ty id.span id.span
     where
       arguments : List Core
-      arguments = node (Text (text_in texts id.name) []) string id.span id.span ∷ node (Const (value.Int (pos at)) []) int id.span id.span ∷ []
+      arguments =
+          node (Text (text_in texts id.name) []) string id.span id.span
+          ∷ node (Const (value.Int (pos at)) []) int id.span id.span
+          ∷ []
+
+  abbrev pub constant_at : ℕ → Identifier → Core
+  constant_at at id = node (Static no_core (class_numbered c) (first_constant + at)) enum_ty id.span id.span
 
   abbrev pub constant_made : ℕ → Identifier → CoreInitializer
   constant_made at id = record {
     is_static = true;
     span = id.span;
     locals = [];
-    body = stmt (Do (node (Assign (node (Static no_core (class_numbered c) (first_constant + at)) enum_ty id.span id.span) (made at id)) enum_ty id.span id.span)) id.span id.span;
+    body = stmt (Do (node (Assign (constant_at at id) (made at id)) enum_ty id.span id.span)) id.span id.span;
   }
 
   abbrev pub constants_made : ℕ → List Identifier → List CoreInitializer

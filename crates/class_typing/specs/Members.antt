@@ -1,5 +1,6 @@
--- The members of a class (JLS 8.3, 8.4, 8.6, 8.7, 8.8), with the code of their bodies, or the first fault. Members come in the order in
--- which they are written, and behind them what no source writes: a default constructor, and those of anonymous classes and enums.
+-- The members of a class (JLS 8.3, 8.4, 8.6, 8.7, 8.8), with the code of their bodies, or the first fault. Members
+-- come in the order in which they are written, and behind them what no source writes: a default constructor, and
+-- those of anonymous classes and enums.
 use Rattle.std.specs.Prelude.{ℕ, suc, ◌+◌, Bool, true, false, not, ◌&&◌, List, [], ◌∷◌, ◌++◌, length, map, Option, Some, None, slice_get, codes, if◌then◌else◌}
 use Rattle.std.specs.List.{find}
 use Rattle.je_base.specs.declared.span.NameId.{NameId}
@@ -44,8 +45,8 @@ use Rattle.class_typing.specs.Constructors.{OwnCall, declared_parameters, handed
 use Rattle.class_typing.specs.Enums.{constants_made, enum_code}
 use Rattle.class_typing.specs.Places.{member_frame, stands_at}
 
--- What members come to, in order: of each variable of a field the constant that it is, if it is one; code; calls between
--- constructors; and what was met in their bodies.
+-- What members come to, in order: of each variable of a field the constant that it is, if it is one; code; calls
+-- between constructors; and what was met in their bodies.
 pub record MembersDone : Type 0 where
   pub constants : List (Option Core)
   pub initializers : List CoreInitializer
@@ -121,12 +122,14 @@ module _ (p : Program) (k : Known) (c : ℕ) (round : List Frame) where
 
   -- in the initializer of one, before which so many stand
   abbrev pub field_scope : Bool → ℕ → Scope
-  field_scope is_static at = scope_in (context_of is_static) (Some (record { is_static = is_static; declared = at })) false
+  field_scope is_static at =
+      scope_in (context_of is_static) (Some (record { is_static = is_static; declared = at })) false
 
   abbrev pub field_node : DeclaredField → ℕ → Span → Core
   field_node f at span =
       if f.is_static then node (Static no_core (class_numbered c) at) (erased p.heads f.ty) span span
-      else node (Field (this_node (field_scope false at).place span) (class_numbered c) at) (erased p.heads f.ty) span span
+      else node (Field (this_node (field_scope false at).place span) (class_numbered c) at)
+      (erased p.heads f.ty) span span
 
   abbrev pub field_initializer : DeclaredField → ℕ → Span → Core → CoreInitializer
   field_initializer f at span n = record {
@@ -139,11 +142,19 @@ module _ (p : Program) (k : Known) (c : ℕ) (round : List Frame) where
   abbrev pub constant_node : DeclaredField → Span → Core → Constant → Core
   constant_node f span from constant = node (constant_form (uses_of from) constant) (erased p.heads f.ty) span span
 
-  abbrev pub field_code : DeclaredField → ℕ → Identifier → Expression → TypedNode → Core → Bool → Option Constant → MembersDone
+  abbrev pub field_code : DeclaredField → ℕ → Identifier → Expression → TypedNode → Core → Bool → Option Constant →
+      MembersDone
   field_code f at id e from n true (Some constant) =
-      record nothing { constants = Some (constant_node f (written.span_of e) from.node constant) ∷ []; met = mentioned_in (field_scope f.is_static at) e }
+      record nothing {
+        constants = Some (constant_node f (written.span_of e) from.node constant) ∷ [];
+        met = mentioned_in (field_scope f.is_static at) e;
+      }
   field_code f at id e from n is_static constant =
-      record nothing { constants = None ∷ []; initializers = field_initializer f at id.span n ∷ []; met = mentioned_in (field_scope f.is_static at) e }
+      record nothing {
+        constants = None ∷ [];
+        initializers = field_initializer f at id.span n ∷ [];
+        met = mentioned_in (field_scope f.is_static at) e;
+      }
 
   abbrev pub initialized : ℕ → Identifier → Expression → Option DeclaredField → Judged MembersDone
   initialized at id e None = gives nothing
@@ -169,7 +180,8 @@ module _ (p : Program) (k : Known) (c : ℕ) (round : List Frame) where
   abbrev pub parameters : Scope → Progress → List FormalParameter → List SourceType → Judged Begun
   parameters s pr (f ∷ fs) (t ∷ ts) = do
     new_name s f.name
-    parameters (with_local f.is_final (local_of f.name.name t f.is_final (length pr.locals) None) s) (with_number p.heads f.name.name t f.is_final f.name.span pr) fs ts
+    parameters (with_local f.is_final (local_of f.name.name t f.is_final (length pr.locals) None) s)
+        (with_number p.heads f.name.name t f.is_final f.name.span pr) fs ts
   parameters s pr fs ts = gives (record { scope = s; progress = pr })
 
   abbrev pub body_if : Returning → Begun → MaybeBlock → Judged BodyDone
@@ -198,7 +210,8 @@ module _ (p : Program) (k : Known) (c : ℕ) (round : List Frame) where
   }
 
   abbrev pub method_code : Identifier → DeclaredMethod → BodyDone → MembersDone
-  method_code id m b = record nothing { methods = code_of id.name id.span m b.progress.locals b.body ∷ []; met = b.progress.met }
+  method_code id m b =
+      record nothing { methods = code_of id.name id.span m b.progress.locals b.body ∷ []; met = b.progress.met }
 
   abbrev pub method : Identifier → List FormalParameter → MaybeBlock → Option DeclaredMethod → Judged MembersDone
   method id fs block None = gives nothing
@@ -210,14 +223,18 @@ module _ (p : Program) (k : Known) (c : ℕ) (round : List Frame) where
   abbrev pub with_head : Span → ConstructorInvocation → List TypedNode → Done → Done
   with_head opening call calls d = record d { code = head_code (word_of call opening) calls ++ d.code }
 
-  abbrev pub constructor_code : ℕ → Identifier → DeclaredMethod → ConstructorInvocation → List TypedNode → Span → Span → Done → MembersDone
+  abbrev pub constructor_code : ℕ → Identifier → DeclaredMethod → ConstructorInvocation → List TypedNode → Span →
+      Span → Done → MembersDone
   constructor_code at id m call calls opening closing d = record nothing {
-    methods = code_of (number (codes "new")) id.span m d.progress.locals (Some (block_of opening closing (with_head opening call calls d))) ∷ [];
+    methods =
+        code_of (number (codes "new")) id.span m d.progress.locals
+        (Some (block_of opening closing (with_head opening call calls d))) ∷ [];
     calls = own_calls at call calls;
     met = d.progress.met;
   }
 
-  abbrev pub constructor : ℕ → Identifier → List FormalParameter → ConstructorInvocation → Span → Statements → Span → Option DeclaredMethod → Judged MembersDone
+  abbrev pub constructor : ℕ → Identifier → List FormalParameter → ConstructorInvocation → Span → Statements → Span →
+      Option DeclaredMethod → Judged MembersDone
   constructor at id fs call opening ss closing None = gives nothing
   constructor at id fs call opening ss closing (Some m) = do
     b ← parameters (scope_in instance None true) nothing_met fs m.parameters
@@ -231,9 +248,20 @@ module _ (p : Program) (k : Known) (c : ℕ) (round : List Frame) where
   is_static_word None = false
   is_static_word (Some word) = true
 
+  abbrev pub initializer_scope : Option Span → ℕ → Scope
+  initializer_scope word fields =
+      scope_in (initializer_context word) (Some (record { is_static = is_static_word word; declared = fields })) false
+
   abbrev pub initializer_code : Bool → Span → Span → Done → MembersDone
   initializer_code is_static opening closing d = record nothing {
-    initializers = record { is_static = is_static; span = opening; locals = d.progress.locals; body = block_of opening closing d } ∷ [];
+    initializers =
+        record {
+          is_static = is_static;
+          span = opening;
+          locals = d.progress.locals;
+          body = block_of opening closing d;
+        }
+        ∷ [];
     met = d.progress.met;
   }
 
@@ -242,11 +270,12 @@ module _ (p : Program) (k : Known) (c : ℕ) (round : List Frame) where
   abbrev pub one_member : ℕ → ℕ → Member → Judged MembersDone
   one_member fields methods (tree.member_type d) = gives nothing
   one_member fields methods (tree.field ms t vs span) = variables fields vs
-  one_member fields methods (tree.method ms t id fs ts block span) = method id fs block (slice_get (methods_in (slice_get p.classes c)) methods)
+  one_member fields methods (tree.method ms t id fs ts block span) =
+      method id fs block (slice_get (methods_in (slice_get p.classes c)) methods)
   one_member fields methods (tree.constructor ms id fs ts call opening ss closing span) =
       constructor methods id fs call opening ss closing (slice_get (methods_in (slice_get p.classes c)) methods)
   one_member fields methods (tree.initializer word opening ss closing span) = do
-    d ← statements p k never no_targets (scope_in (initializer_context word) (Some (record { is_static = is_static_word word; declared = fields })) false) nothing_met ss
+    d ← statements p k never no_targets (initializer_scope word fields) nothing_met ss
     gives (initializer_code (is_static_word word) opening closing d)
 
   abbrev pub members_from : ℕ → ℕ → Members → Judged MembersDone
@@ -261,7 +290,9 @@ module _ (p : Program) (k : Known) (c : ℕ) (round : List Frame) where
   -- the default constructor, of the access of its class (JLS 8.8.9)
   abbrev pub default_code : MembersDone
   default_code = record nothing {
-    methods = unwritten_constructor (number (codes "new")) (number []) class_span (default_flags (access_in (slice_get p.classes c))) [] [] ∷ [];
+    methods =
+        unwritten_constructor (number (codes "new")) (number []) class_span
+        (default_flags (access_in (slice_get p.classes c))) [] [] ∷ [];
   }
 
   abbrev pub default_constructor : Judged MembersDone
@@ -274,7 +305,8 @@ module _ (p : Program) (k : Known) (c : ℕ) (round : List Frame) where
   anonymous_code [] = nothing
   anonymous_code (m ∷ ms) = record nothing {
     methods =
-        unwritten_constructor (number (codes "new")) (number []) class_span (default_flags (access_in (slice_get p.classes c))) (declared_parameters p m)
+        unwritten_constructor (number (codes "new")) (number []) class_span
+        (default_flags (access_in (slice_get p.classes c))) (declared_parameters p m)
         (handed_on p (scope_in instance None true).place class_span m ∷ [])
         ∷ [];
   }

@@ -15,7 +15,8 @@ same_number c (Some d) = nat_eq c d
 
 -- the body of a member, in which no locals are declared
 abbrev pub member_frame : ℕ → Context → Option Initializer → List LocalVariable → Frame
-member_frame c context initializer locals = record { class = c; locals = locals; local_classes = []; context = context; initializer = initializer }
+member_frame c context initializer locals =
+    record { class = c; locals = locals; local_classes = []; context = context; initializer = initializer }
 
 abbrev pub place_met : Met → Place
 place_met (declares s id) = s.place
@@ -38,11 +39,13 @@ module _ (p : Program) where
   frames_if None otherwise = otherwise
   frames_if (Some m) otherwise = frames (place_met m)
 
-  -- the bodies round a class, the innermost first, by the classes round it: of a member class the class's own without locals
+  -- the bodies round a class, the innermost first, by the classes round it: of a member class the class's own without
+  -- locals
   abbrev pub frames_round : List Met → ℕ → List ℕ → List Frame
   frames_round met c [] = []
   frames_round met c (d ∷ ds) =
-      frames_if (find (stands_at c) met) (member_frame d ((site_at p.source.sites c).spot.context) None [] ∷ frames_round met d ds)
+      frames_if (find (stands_at c) met)
+      (member_frame d ((site_at p.source.sites c).spot.context) None [] ∷ frames_round met d ds)
 
   unfoldable pub round : List Met → ℕ → List Frame
   round met c = frames_round met c (site_at p.source.sites c).spot.round

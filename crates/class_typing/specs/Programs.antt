@@ -1,5 +1,6 @@
--- What bodies know of all classes: what these declare, with what no source writes of them. Fields that no name finds stand first in a
--- class: the one with the instance round it (JLS 8.1.3), those with captured locals, in order of their declarations, and an enum's two.
+-- What bodies know of all classes: what these declare, with what no source writes of them. Fields that no name finds
+-- stand first in a class: the one with the instance round it (JLS 8.1.3), those with captured locals, in order of
+-- their declarations, and an enum's two.
 use Rattle.std.specs.Prelude.{ℕ, suc, ◌+◌, Bool, true, false, ◌&&◌, List, [], ◌∷◌, ◌++◌, length, drop, map, Option, Some, None, slice_get, nat_eq, unwrap_or, if◌then◌else◌}
 use Rattle.std.specs.List.{position}
 use Rattle.je_base.specs.declared.span.NameId.{NameId}
@@ -72,7 +73,9 @@ module _ (source : Source) where
 
   abbrev pub types_before : (ℕ → List CapturedLocal) → ℕ → List SourceType
   types_before captured c =
-      outer_types (enclosing c) ++ map captured_type (captured c) ++ enum_types (is_enum_sort (site_at source.sites c).sort)
+      outer_types (enclosing c)
+      ++ map captured_type (captured c)
+      ++ enum_types (is_enum_sort (site_at source.sites c).sort)
 
   -- no name means it, since the empty text is none
   abbrev pub hidden_field : SourceType → DeclaredField
@@ -85,11 +88,13 @@ module _ (source : Source) where
   }
 
   abbrev pub hidden_fields : (ℕ → List CapturedLocal) → ℕ → List DeclaredField
-  hidden_fields captured c = if is_guest (site_at source.sites c).written then map hidden_field (types_before captured c) else []
+  hidden_fields captured c =
+      if is_guest (site_at source.sites c).written then map hidden_field (types_before captured c) else []
 
   abbrev pub with_hidden : (ℕ → List CapturedLocal) → ℕ → List DeclaredClass → List DeclaredClass
   with_hidden captured c [] = []
-  with_hidden captured c (d ∷ ds) = record d { fields = hidden_fields captured c ++ d.fields } ∷ with_hidden captured (suc c) ds
+  with_hidden captured c (d ∷ ds) =
+      record d { fields = hidden_fields captured c ++ d.fields } ∷ with_hidden captured (suc c) ds
 
   -- ---- the program, without constants
 
@@ -98,7 +103,8 @@ module _ (source : Source) where
 
   -- the field with the value of a local; where that isn't known, it is past all fields
   abbrev pub captured_place : (ℕ → List CapturedLocal) → ℕ → ℕ → ℕ → ℕ
-  captured_place captured c owner local = outer_count c + unwrap_or (position (is_of owner local) (captured c)) (length (fields_of (slice_get classes c)))
+  captured_place captured c owner local =
+      outer_count c + unwrap_or (position (is_of owner local) (captured c)) (length (fields_of (slice_get classes c)))
     where
       fields_of : Option DeclaredClass → List DeclaredField
       fields_of None = []

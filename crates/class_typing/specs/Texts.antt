@@ -1,5 +1,5 @@
--- The constant strings of a program (JLS 3.10.5, 15.28): those that stand in its code, in the order in which they stand in the text, each
--- once.
+-- The constant strings of a program (JLS 3.10.5, 15.28): those that stand in its code, in the order in which they
+-- stand in the text, each once.
 use Rattle.std.specs.Prelude.{ℕ, Bool, ◌&&◌, ◌||◌, List, [], ◌∷◌, ◌++◌, map, flat_map, Option, Some, None, nat_lt, nat_eq, if◌then◌else◌}
 use Rattle.std.specs.List.{list_any}
 use Rattle.std.specs.Str.{bytes_eq}
@@ -114,7 +114,8 @@ abbrev pub method_texts : CoreMethod → List TextAt
 method_texts m = body_texts m.body
 
 abbrev pub class_texts : CoreClass → List TextAt
-class_texts c = flat_map field_texts c.fields ++ flat_map initializer_texts c.initializers ++ flat_map method_texts c.methods
+class_texts c =
+    flat_map field_texts c.fields ++ flat_map initializer_texts c.initializers ++ flat_map method_texts c.methods
 
 -- ---- in the order of the text
 

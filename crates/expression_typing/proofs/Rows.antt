@@ -1,5 +1,5 @@
--- Worked rows of expressions: the order of faults, what a variable is for, final variables, and what an expression mentions. The
--- classes are those of the rows of `name_typing`.
+-- Worked rows of expressions: the order of faults, what a variable is for, final variables, and what an expression
+-- mentions. The classes are those of the rows of `name_typing`.
 use Rattle.std.proofs.Common.{◌≡◌, refl, ℕ}
 use Rattle.std.specs.Prelude.{Bool, true, false, [], ◌∷◌, None, pos, negsuc}
 use Rattle.je_core.specs.declared.types.Base.TheVariants as base
@@ -52,7 +52,12 @@ set target = tree.assign None (at 30) target (one 31) whole
 
 -- an int variable of this form, at a place, gets 1
 abbrev assigns : CoreForm → ℕ → Judged TypedNode
-assigns form n = gives (record { node = node (Assign (int_node form n).node (int_node (Const (value.Int (pos 1)) []) 31).node) (ty base.Int) whole (at 30); type = int })
+assigns form n =
+    gives (record {
+      node = node (Assign (int_node form n).node (int_node (Const (value.Int (pos 1)) []) 31).node)
+          (ty base.Int) whole (at 30);
+      type = int;
+    })
 
 -- ---- v and w mean nothing: parts from left to right, before the whole
 
@@ -61,11 +66,13 @@ unfolding simple_name updated_name variable_node not_forward variable_named take
 left_first = refl
 
 -- `true * w`
-parts_first : in_a (tree.binary Multiply (at 30) (tree.literal (literal.Bool true) (at 29)) (named_at 7) whole) ≡ breaks UnknownName (at 7)
+parts_first : in_a (tree.binary Multiply (at 30) (tree.literal (literal.Bool true) (at 29)) (named_at 7) whole)
+    ≡ breaks UnknownName (at 7)
 unfolding simple_name updated_name variable_node not_forward variable_named taken bind check need find_field erased supertypes program source heads classes object_class library_class used literal_of
 parts_first = refl
 
-then_the_whole : in_a (tree.binary Multiply (at 30) (tree.literal (literal.Bool true) (at 29)) (one 31) whole) ≡ breaks BadOperand (at 30)
+then_the_whole : in_a (tree.binary Multiply (at 30) (tree.literal (literal.Bool true) (at 29)) (one 31) whole)
+    ≡ breaks BadOperand (at 30)
 unfolding bind check need used literal_of number_literal binary primitive_operation
 then_the_whole = refl
 
@@ -76,7 +83,8 @@ least_int : in_a (tree.prefix Minus (at 30) (tree.literal (literal.Int (pos 2147
 unfolding bind need number_literal
 least_int = refl
 
-behind_brackets : in_a (tree.prefix Minus (at 30) (tree.parens (tree.literal (literal.Int (pos 2147483648)) (at 31)) whole) whole) ≡ breaks LiteralRange (at 31)
+behind_brackets : in_a (tree.prefix Minus (at 30)
+    (tree.parens (tree.literal (literal.Int (pos 2147483648)) (at 31)) whole) whole) ≡ breaks LiteralRange (at 31)
 unfolding bind need used literal_of number_literal
 behind_brackets = refl
 
@@ -98,11 +106,13 @@ unfolding assigned_name variable_node variable_named assigned_to assignment plac
 a_final_field = refl
 
 -- `k = true`
-value_first : in_a (tree.assign None (at 30) (named_at 3) (tree.literal (literal.Bool true) (at 31)) whole) ≡ breaks NotConvertible (at 31)
+value_first : in_a (tree.assign None (at 30) (named_at 3) (tree.literal (literal.Bool true) (at 31)) whole) ≡ breaks
+    NotConvertible (at 31)
 unfolding assigned_name variable_node variable_named assigned_to assignment place converted bind check need find_field erased supertypes program source heads classes object_class library_class used literal_of number_literal not_final
 value_first = refl
 
--- ---- a blank one, in a static initializer of A, in an instance initializer, and a final local that a class inside its body captures
+-- ---- a blank one, in a static initializer of A, in an instance initializer, and a final local that a class inside
+-- its body captures
 
 abbrev set_k_in : Place → Judged TypedNode
 set_k_in p = expression program (known true) (scope p) read (set (named_at 3))
@@ -116,12 +126,14 @@ in_another_initializer : set_k_in (in_initializer false instance 4) ≡ breaks F
 unfolding assigned_name variable_node variable_named assigned_to assignment place converted bind check need find_field erased supertypes program source heads classes object_class library_class used literal_of number_literal not_final
 in_another_initializer = refl
 
-a_captured_local : expression program (known true) (scope (in_local_class true)) read (set (named_at 6)) ≡ breaks FinalAssign (at 6)
+a_captured_local : expression program (known true) (scope (in_local_class true)) read (set (named_at 6)) ≡ breaks
+    FinalAssign (at 6)
 unfolding assigned_name variable_node variable_named assigned_to assignment place converted bind check need find_field erased supertypes program source heads classes object_class library_class used literal_of number_literal not_final
 a_captured_local = refl
 
 -- ---- x + x.f(v)
 
-mentioned_names : mentions (tree.binary Add (at 30) (named_at 0) (tree.call_on (named_at 0) (id 4) (tree.more_expressions (named_at 6) tree.no_expressions) whole) whole)
+mentioned_names : mentions (tree.binary Add (at 30) (named_at 0)
+    (tree.call_on (named_at 0) (id 4) (tree.more_expressions (named_at 6) tree.no_expressions) whole) whole)
     ≡ named (id 0) ∷ named (id 0) ∷ named (id 6) ∷ []
 mentioned_names = refl

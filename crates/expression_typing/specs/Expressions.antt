@@ -1,5 +1,5 @@
--- Expressions (JLS 15): what each comes to, a node with its type, or the first fault. Parts come from left to right before the
--- whole, and each form is one step of a chapter of its own on what its parts came to.
+-- Expressions (JLS 15): what each comes to, a node with its type, or the first fault. Parts come from left to right
+-- before the whole, and each form is one step of a chapter of its own on what its parts came to.
 use Rattle.std.specs.Prelude.{ℕ, Bool, true, false, List, [], ◌∷◌, Option, Some, None, nat_eq, unwrap_or, if◌then◌else◌}
 use Rattle.std.specs.List.{position}
 use Rattle.je_base.specs.declared.span.Span.{Span}
@@ -45,8 +45,8 @@ use Rattle.call_typing.specs.Calls.{call_on, receiver, simple_call, super_call, 
 use Rattle.call_typing.specs.Creations.{anonymous_creation, creation}
 use Rattle.expression_typing.specs.FinalVariables.{Scope, not_final}
 
--- what an expression is for: its value is read, it is assigned, it is read and assigned, or it is the initializer of a variable
--- of a type
+-- what an expression is for: its value is read, it is assigned, it is read and assigned, or it is the initializer of
+-- a variable of a type
 pub data Purpose : Type 0 where
   read : Purpose
   assigned : Purpose
@@ -104,8 +104,10 @@ target_purpose (Some o) = updated
 -- ---- an integer literal directly behind a minus may be one more (JLS 3.10.1)
 
 abbrev pub negative_literal : PrefixOp → Expression → Span → Option (Judged TypedNode)
-negative_literal prefix_op.Minus (tree.literal (literal.Int z) own) span = Some (number_literal base.Int (negative_int z) own span)
-negative_literal prefix_op.Minus (tree.literal (literal.Long z) own) span = Some (number_literal base.Long (negative_long z) own span)
+negative_literal prefix_op.Minus (tree.literal (literal.Int z) own) span =
+    Some (number_literal base.Int (negative_int z) own span)
+negative_literal prefix_op.Minus (tree.literal (literal.Long z) own) span =
+    Some (number_literal base.Long (negative_long z) own span)
 negative_literal o e span = None
 
 abbrev pub or_else : Option (Judged TypedNode) → Judged TypedNode → Judged TypedNode
@@ -129,8 +131,8 @@ value judged = do
   t ← judged
   used t
 
--- What is known where the bodies are: of a class, what a new object of it gets from round it; of a field, whether it is final
--- and has no initializer.
+-- What is known where the bodies are: of a class, what a new object of it gets from round it; of a field, whether it
+-- is final and has no initializer.
 pub record Known : Type 0 where
   pub captures : Place → ℕ → List CoreCapture
   pub is_blank : Member → Bool
@@ -249,7 +251,8 @@ module _ (p : Program) (k : Known) (s : Scope) where
       creation p s.place made word (name_span t) span args (k.captures s.place (class_or_zero made))
     expression purpose (tree.new_anonymous word t es body span) = do
       args ← values es
-      anonymous_creation p s.place (anonymous_at p word) (anonymous_type p word t) word (name_span t) span args (k.captures s.place (anonymous_at p word))
+      anonymous_creation p s.place (anonymous_at p word) (anonymous_type p word t) word (name_span t) span args
+          (k.captures s.place (anonymous_at p word))
     -- JLS 15.10
     expression purpose (tree.new_array t es dims span) = do
       of ← bare_type p s.place.here t

@@ -1,4 +1,5 @@
--- Which final variables may be assigned, and where (JLS 4.12.4, 8.3.1.2, 16): blank ones, where they are to be given their value.
+-- Which final variables may be assigned, and where (JLS 4.12.4, 8.3.1.2, 16): blank ones, where they are to be given
+-- their value.
 use Rattle.std.specs.Prelude.{ℕ, Bool, true, false, not, ◌&&◌, ◌||◌, List, Option, Some, None, nat_eq}
 use Rattle.std.specs.List.{list_any}
 use Rattle.je_core.specs.declared.types.ClassId.{ClassId}
@@ -13,8 +14,8 @@ use Rattle.je_typing.specs.Typed.{TypedNode}
 use Rattle.name_typing.specs.Fields.{field_at}
 use Rattle.name_typing.specs.Program.{Initializer, Place, Program}
 
--- A place in a body, whether the body is a constructor's, and the numbers of the final locals that have their value from where
--- they are declared: parameters, and those with an initializer.
+-- A place in a body, whether the body is a constructor's, and the numbers of the final locals that have their value
+-- from where they are declared: parameters, and those with an initializer.
 pub record Scope : Type 0 where
   pub place : Place
   pub is_constructor : Bool

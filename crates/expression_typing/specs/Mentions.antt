@@ -1,5 +1,5 @@
--- What an expression mentions by itself, in reading order: simple names, and classes of which it makes objects (JLS 6.5, 15.9).
--- What stands in the body behind `new` is no part of it.
+-- What an expression mentions by itself, in reading order: simple names, and classes of which it makes objects (JLS
+-- 6.5, 15.9). What stands in the body behind `new` is no part of it.
 use Rattle.std.specs.Prelude.{List, [], ◌∷◌, ◌++◌}
 use Rattle.je_base.specs.declared.span.Span.{Span}
 use Rattle.je_ast.specs.declared.name.Identifier.{Identifier}
@@ -7,7 +7,8 @@ use Rattle.je_ast.specs.Trees.{Expression, Expressions}
 use Rattle.je_ast.specs.Trees as tree
 use Rattle.je_ast.specs.Types.{TypeName}
 
--- a name; a class that is named behind `new`; a class whose body stands behind `new`, by that word, with its type and arguments
+-- a name; a class that is named behind `new`; a class whose body stands behind `new`, by that word, with its type and
+-- arguments
 pub data Mention : Type 0 where
   named : Identifier → Mention
   made : TypeName → Mention

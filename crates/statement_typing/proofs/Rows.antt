@@ -1,5 +1,5 @@
--- Worked rows of statements: the order of faults, scopes along a block, labels and the parts of loops, and `switch`. The class is
--- that of the rows of `name_typing`, `class A { int x; .. }`.
+-- Worked rows of statements: the order of faults, scopes along a block, labels and the parts of loops, and `switch`.
+-- The class is that of the rows of `name_typing`, `class A { int x; .. }`.
 use Rattle.std.proofs.Common.{◌≡◌, refl, ℕ, List}
 use Rattle.std.specs.Prelude.{true, false, [], ◌∷◌, Some, None, pos}
 use Rattle.je_core.specs.declared.types.Base.TheVariants as base
@@ -67,10 +67,15 @@ truth p = tree.literal (literal.Bool true) (at p)
 
 -- int v = e, at a place
 abbrev variable : ℕ → Expression → Statement
-variable n e = tree.local (at n) false (primitive Int 0 (at n)) (tree.more_variables (record (id 6) { span = at n }) 0 (tree.an_expression e) tree.no_variables) whole
+variable n e =
+    tree.local (at n) false (primitive Int 0 (at n))
+    (tree.more_variables (record (id 6) { span = at n }) 0 (tree.an_expression e) tree.no_variables) whole
 
 abbrev first_v : CoreStmt
-first_v = stmt (Do (node (Assign (node (Local 0) (ty base.Int) (at 40) (at 40)) (int_node (Const (value.Int (pos 1)) []) 41).node) (ty base.Int) (record { file = 0; start = 40; end = 42 }) (at 40))) (at 40) (at 40)
+first_v =
+    stmt (Do (node (Assign (node (Local 0) (ty base.Int) (at 40) (at 40))
+    (int_node (Const (value.Int (pos 1)) []) 41).node) (ty base.Int) (record { file = 0; start = 40; end = 42 })
+    (at 40))) (at 40) (at 40)
 
 -- ---- a local gets a number, and is in scope behind its declaration and in its own initializer
 
@@ -88,17 +93,20 @@ unfolding bind check need used literal_of number_literal assigned converted eras
 initializer_first = refl
 
 -- it ends with its block
-behind_its_block : in_block (tree.block (at 39) (listed (variable 40 (number 1 41) ∷ [])) (at 43) ∷ tree.expression_statement (at 44) (name_at 6) whole ∷ []) ≡ breaks UnknownName (at 6)
+behind_its_block : in_block (tree.block (at 39) (listed (variable 40 (number 1 41) ∷ [])) (at 43)
+    ∷ tree.expression_statement (at 44) (name_at 6) whole ∷ []) ≡ breaks UnknownName (at 6)
 unfolding bind check need used literal_of number_literal assigned converted erased variable_constant simple_name updated_name variable_node not_forward variable_named taken find_field supertypes program source heads classes object_class library_class
 behind_its_block = refl
 
 -- ---- a condition is judged behind all parts: if (1) v;
 
-parts_first : in_block (tree.if_only (at 40) (number 1 41) (tree.expression_statement (at 6) (name_at 6) whole) whole ∷ []) ≡ breaks UnknownName (at 6)
+parts_first : in_block (tree.if_only (at 40) (number 1 41) (tree.expression_statement (at 6) (name_at 6) whole) whole
+    ∷ []) ≡ breaks UnknownName (at 6)
 unfolding bind check need used literal_of number_literal erased simple_name updated_name variable_node not_forward variable_named taken find_field supertypes program source heads classes object_class library_class
 parts_first = refl
 
-then_the_condition : in_block (tree.if_only (at 40) (number 1 41) (tree.empty (at 42)) whole ∷ []) ≡ breaks BadCondition (at 41)
+then_the_condition : in_block (tree.if_only (at 40) (number 1 41) (tree.empty (at 42)) whole ∷ []) ≡ breaks
+    BadCondition (at 41)
 unfolding bind check need used literal_of number_literal if_statement condition
 then_the_condition = refl
 
@@ -111,24 +119,35 @@ abbrev turns : Statement → Statement
 turns b = tree.for (at 41) (tree.steps tree.no_expressions) tree.no_expression tree.no_expressions b whole
 
 label_at_the_loop : in_block (tree.labelled (id 6) (turns (again 42)) whole ∷ [])
-    ≡ gives (stmt (Block [] (core_stmts (stmt (Labelled (id 6).name (stmt (Loop (node (Const (value.Bool true) []) (ty base.Bool) (at 41) (at 41)) [] (stmt (Jump true (Some (id 6).name)) (at 42) (at 42))) (at 41) (at 41))) (at 6) (at 6) ∷ []))) (at 6) (at 41) ∷ [], [])
+    ≡ gives (
+      stmt (Block [] (core_stmts
+          (stmt (Labelled (id 6).name (stmt
+          (Loop (node (Const (value.Bool true) []) (ty base.Bool) (at 41) (at 41)) []
+          (stmt (Jump true (Some (id 6).name)) (at 42) (at 42))) (at 41) (at 41))) (at 6) (at 6) ∷ []))) (at 6) (at 41)
+          ∷ [],
+      [],
+    )
 unfolding bind check need loop_statement condition labelled jump
 label_at_the_loop = refl
 
 -- v: w: for (;;) continue v;
-label_of_a_label : in_block (tree.labelled (id 6) (tree.labelled (id 7) (turns (again 42)) whole) whole ∷ []) ≡ breaks BadLabel (at 6)
+label_of_a_label : in_block (tree.labelled (id 6) (tree.labelled (id 7) (turns (again 42)) whole) whole ∷ []) ≡ breaks
+    BadLabel (at 6)
 unfolding bind check need loop_statement condition labelled jump
 label_of_a_label = refl
 
 -- ---- for (int v : x) ; where x is an int
 
-no_array : in_block (tree.for_each (at 40) false (primitive Int 0 (at 41)) (id 6) (name_at 0) (tree.empty (at 43)) whole ∷ []) ≡ breaks BadForEach (at 0)
+no_array : in_block (tree.for_each (at 40) false (primitive Int 0 (at 41)) (id 6) (name_at 0) (tree.empty (at 43))
+    whole ∷ []) ≡ breaks BadForEach (at 0)
 unfolding bind check need used erased simple_name updated_name variable_node not_forward variable_named taken find_field supertypes program source heads classes object_class library_class
 no_array = refl
 
 -- ---- switch (x) { case 1: case 1: }
 
-one_twice : in_block (tree.switch (at 40) (name_at 0) (tree.more_groups (tree.case_label (number 1 41) (tree.case_label (number 1 42) tree.no_labels)) tree.no_statements tree.no_groups) whole ∷ []) ≡ breaks BadCase (at 42)
+one_twice : in_block (tree.switch (at 40) (name_at 0)
+    (tree.more_groups (tree.case_label (number 1 41) (tree.case_label (number 1 42) tree.no_labels))
+    tree.no_statements tree.no_groups) whole ∷ []) ≡ breaks BadCase (at 42)
 unfolding bind check need used literal_of number_literal erased simple_name updated_name variable_node not_forward variable_named taken find_field supertypes program source heads classes object_class library_class selector next_label
 one_twice = refl
 

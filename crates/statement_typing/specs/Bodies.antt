@@ -1,5 +1,5 @@
--- What the walk over a body knows at a place of it, and what it leaves behind: the scope of locals and local classes there
--- (JLS 6.3, 14.2 to 14.4), all locals of the body so far, and what its expressions mention.
+-- What the walk over a body knows at a place of it, and what it leaves behind: the scope of locals and local classes
+-- there (JLS 6.3, 14.2 to 14.4), all locals of the body so far, and what its expressions mention.
 use Rattle.std.specs.Prelude.{ℕ, Bool, List, [], ◌∷◌, ◌++◌, length, map, Option, if◌then◌else◌}
 use Rattle.std.specs.List.{list_any}
 use Rattle.je_base.specs.declared.span.NameId.{NameId}
@@ -17,8 +17,8 @@ use Rattle.name_typing.specs.Program.{Constant, Frame, LocalVariable, Program}
 use Rattle.expression_typing.specs.FinalVariables.{Scope}
 use Rattle.expression_typing.specs.Mentions.{Mention, mentions}
 
--- ---- what is met in a body: what an expression mentions, and local classes that are declared, each in its scope; that of a
--- local class has the class itself (JLS 6.3)
+-- ---- what is met in a body: what an expression mentions, and local classes that are declared, each in its scope;
+-- that of a local class has the class itself (JLS 6.3)
 
 pub data Met : Type 0 where
   mentioned : Scope → Mention → Met
@@ -49,7 +49,9 @@ abbrev pub given_if : Bool → ℕ → List ℕ → List ℕ
 given_if is_given n ns = if is_given then n ∷ ns else ns
 
 abbrev pub with_local : Bool → LocalVariable → Scope → Scope
-with_local is_given v s = record (in_frame (record (s.place.here) { locals = v ∷ s.place.here.locals }) s) { given = given_if is_given v.number s.given }
+with_local is_given v s = record (in_frame (record (s.place.here) { locals = v ∷ s.place.here.locals }) s) {
+  given = given_if is_given v.number s.given;
+}
 
 abbrev pub with_local_class : ℕ → Scope → Scope
 with_local_class c s = in_frame (record (s.place.here) { local_classes = c ∷ s.place.here.local_classes }) s
@@ -81,8 +83,8 @@ next_number pr = length pr.locals
 
 -- ---- what a statement comes to
 
--- Its code; a declaration of locals is a statement for each initializer, and that of a class none. The numbers of the locals that
--- it declares in its block, the scope behind it in the block, and what was met so far.
+-- Its code; a declaration of locals is a statement for each initializer, and that of a class none. The numbers of the
+-- locals that it declares in its block, the scope behind it in the block, and what was met so far.
 pub record Done : Type 0 where
   pub code : List CoreStmt
   pub numbers : List ℕ
@@ -98,7 +100,12 @@ nothing_done s pr = record { code = []; numbers = []; scope = s; progress = pr }
 
 -- one thing, and the rest of its block
 abbrev pub followed : Done → Done → Done
-followed d rest = record { code = d.code ++ rest.code; numbers = d.numbers ++ rest.numbers; scope = rest.scope; progress = rest.progress }
+followed d rest = record {
+  code = d.code ++ rest.code;
+  numbers = d.numbers ++ rest.numbers;
+  scope = rest.scope;
+  progress = rest.progress;
+}
 
 abbrev pub first_of : List CoreStmt → CoreStmt
 first_of [] = stmt Empty no_span no_span

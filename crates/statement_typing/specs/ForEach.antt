@@ -14,8 +14,8 @@ use Rattle.je_typing.specs.Arrays.{element_node}
 use Rattle.je_typing.specs.Typed.{TypedNode}
 use Rattle.statement_typing.specs.Bodies.{performed}
 
--- the node of the array, whose span all that isn't written has, and the number of its local; those of the index and of the
--- variable come next
+-- the node of the array, whose span all that isn't written has, and the number of its local; those of the index and
+-- of the variable come next
 module _ (heads : List ClassHead) (span : Span) (array : TypedNode) (n : ℕ) where
   abbrev pub hidden_node : CoreForm → Ty → Core
   hidden_node form ty = node form ty span span
@@ -39,13 +39,17 @@ module _ (heads : List ClassHead) (span : Span) (array : TypedNode) (n : ℕ) wh
   abbrev pub begins : Span → List CoreStmt
   begins word =
       performed word (hidden_node (Assign array_local array.node) (erased heads array.type))
-      ∷ performed word (hidden_node (Assign index_local (hidden_node (Const (value.Int (pos 0)) []) (of base.Int))) (of base.Int))
+      ∷ performed word (hidden_node (Assign index_local (hidden_node (Const (value.Int (pos 0)) []) (of base.Int)))
+      (of base.Int))
       ∷ []
 
-  -- the loop, in whose body the variable, a local of a type at its name, first gets an element that is converted to that type
+  -- the loop, in whose body the variable, a local of a type at its name, first gets an element that is converted to
+  -- that type
   abbrev pub variable_assigned : SourceType → Span → Core → Core
   variable_assigned t at from = node (Assign (node (Local (n + 2)) (erased heads t) at at) from) (erased heads t) at at
 
   abbrev pub turns : Span → SourceType → Span → Core → CoreStmt → CoreStmt
   turns word t at from body =
-      stmt (Loop is_within (next_index ∷ []) (stmt (Block ((n + 2) ∷ []) (core_stmts (performed word (variable_assigned t at from) ∷ body ∷ []))) word word)) word word
+      stmt (Loop is_within (next_index ∷ [])
+      (stmt (Block ((n + 2) ∷ []) (core_stmts (performed word (variable_assigned t at from) ∷ body ∷ []))) word
+      word)) word word

@@ -1,4 +1,5 @@
--- Local classes (JLS 14.3): a declaration of one is nothing that runs. It is in scope in its own body and in the rest of its block.
+-- Local classes (JLS 14.3): a declaration of one is nothing that runs. It is in scope in its own body and in the rest
+-- of its block.
 use Rattle.std.specs.Prelude.{ℕ, Bool, false, not, [], ◌∷◌, unwrap_or}
 use Rattle.std.specs.List.{list_any, position}
 use Rattle.je_base.specs.declared.span.NameId.{NameId}

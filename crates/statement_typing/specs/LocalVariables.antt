@@ -1,5 +1,5 @@
--- Local variables (JLS 14.4). A variable with an initializer is an assignment, and one without is nothing; it is in scope in its own
--- initializer.
+-- Local variables (JLS 14.4). A variable with an initializer is an assignment, and one without is nothing; it is in
+-- scope in its own initializer.
 use Rattle.std.specs.Prelude.{ℕ, Bool, false, not, [], ◌∷◌, None}
 use Rattle.je_base.specs.declared.span.Span.{Span}
 use Rattle.je_core.specs.Core.{Core}
@@ -30,7 +30,8 @@ new_name s id = check LocalTwice id.span (not (has_local s id.name))
 module _ (p : Program) (k : Known) (is_final : Bool) (start : Span) (written_type : TypeName) (of : SourceType) where
   -- the assignment of an initializer, at the name
   abbrev pub assigned_to : LocalVariable → Identifier → Expression → Core → Core
-  assigned_to v id e n = (assign_node p.heads id.span (written.join id.span (written.span_of e)) (typed_local p v id.span) n).node
+  assigned_to v id e n =
+      (assign_node p.heads id.span (written.join id.span (written.span_of e)) (typed_local p v id.span) n).node
 
   abbrev pub with_variable : Identifier → SourceType → Progress → Progress
   with_variable id t pr = with_number p.heads id.name t is_final id.span pr
@@ -39,21 +40,35 @@ module _ (p : Program) (k : Known) (is_final : Bool) (start : Span) (written_typ
   abbrev pub initialized : Scope → Progress → Identifier → SourceType → Expression → TypedNode → Core → Done
   initialized s pr id t e from n =
       let v = local_of id.name t is_final (next_number pr) (variable_constant is_final t from.node) in
-      record { code = performed start (assigned_to v id e n) ∷ []; numbers = next_number pr ∷ []; scope = with_local is_final v s; progress = behind (with_local is_final v s) e (with_variable id t pr) }
+      record {
+        code = performed start (assigned_to v id e n) ∷ [];
+        numbers = next_number pr ∷ [];
+        scope = with_local is_final v s;
+        progress = behind (with_local is_final v s) e (with_variable id t pr);
+      }
 
   abbrev pub with_initializer : Scope → Progress → Identifier → ℕ → SourceType → Expression → Judged Done
   with_initializer s pr id dims t e = do
-    from ← value (expression p k (with_local is_final (local_of id.name t is_final (next_number pr) None) s) (initial t) e)
+    from ← value (expression p k (with_local is_final (local_of id.name t is_final (next_number pr) None) s)
+        (initial t) e)
     new_name s id
     n ← assigned p.heads t (written.span_of e) from
     well_declared written_type dims id
     gives (initialized s pr id t e from n)
 
+  abbrev pub uninitialized : Scope → Progress → Identifier → SourceType → Done
+  uninitialized s pr id t = record {
+    code = [];
+    numbers = next_number pr ∷ [];
+    scope = with_local false (local_of id.name t is_final (next_number pr) None) s;
+    progress = with_variable id t pr;
+  }
+
   abbrev pub without_initializer : Scope → Progress → Identifier → ℕ → SourceType → Judged Done
   without_initializer s pr id dims t = do
     new_name s id
     well_declared written_type dims id
-    gives (record { code = []; numbers = next_number pr ∷ []; scope = with_local false (local_of id.name t is_final (next_number pr) None) s; progress = with_variable id t pr })
+    gives (uninitialized s pr id t)
 
   -- brackets may stand behind the name
   abbrev pub variable : Scope → Progress → Identifier → ℕ → MaybeExpression → Judged Done

@@ -1,9 +1,10 @@
--- Statements (JLS 14): what each comes to, core statements, or the first fault. Parts come in the order in which they are written,
--- before the whole: what is asked of a condition, a selector, a label or a catch comes behind all parts of its statement.
+-- Statements (JLS 14): what each comes to, core statements, or the first fault. Parts come in the order in which they
+-- are written, before the whole: what is asked of a condition, a selector, a label or a catch comes behind all parts
+-- of its statement.
 use Rattle.std.specs.Prelude.{ℕ, ◌+◌, Bool, true, false, List, [], ◌∷◌, ◌++◌, Option, Some, None, if◌then◌else◌}
 use Rattle.je_base.specs.declared.span.Span.{Span}
 use Rattle.je_core.specs.declared.types.Base.TheVariants as base
-use Rattle.je_core.specs.Core.{Core, CoreStmt, Block, Empty, Labelled, Switch, Try, a_stmt, core_stmts, no_stmt, stmt}
+use Rattle.je_core.specs.Core.{Core, CoreCatches, CoreStmt, MaybeStmt, Block, Empty, Labelled, Switch, Try, a_stmt, core_stmts, no_stmt, stmt}
 use Rattle.je_ast.specs.declared.name.Identifier.{Identifier}
 use Rattle.je_ast.specs.Spans as written
 use Rattle.je_ast.specs.Trees.{Catches, Expression, Expressions, ForInitializer, Groups, MaybeExpression, Statement, Statements}
@@ -134,22 +135,28 @@ module _ (p : Program) (k : Known) (returning : Returning) where
 
   -- JLS 14.14.1
   abbrev pub for_code : Option Identifier → Span → Done → CoreStmt → CoreStmt
-  for_code label word start loop = stmt (Block start.numbers (core_stmts (start.code ++ with_label label loop ∷ []))) (start_of label word) word
+  for_code label word start loop =
+      stmt (Block start.numbers (core_stmts (start.code ++ with_label label loop ∷ []))) (start_of label word) word
 
   -- JLS 14.14.2: the locals of the array, the index and the variable
   abbrev pub with_element : Scope → Progress → Bool → SourceType → Identifier → Scope
   with_element s pr is_final t id = with_local is_final (local_of id.name t is_final (next_number pr + 2) None) s
 
   abbrev pub with_hidden : Span → TypedNode → Progress → Progress
-  with_hidden span array pr = with_number p.heads (no_name p) (primitive_type base.Int) false span (with_number p.heads (no_name p) array.type false span pr)
+  with_hidden span array pr =
+      with_number p.heads (no_name p) (primitive_type base.Int) false span
+      (with_number p.heads (no_name p) array.type false span pr)
 
-  abbrev pub for_each_code : Option Identifier → Span → Expression → TypedNode → ℕ → SourceType → Identifier → Core → CoreStmt → CoreStmt
+  abbrev pub for_each_code : Option Identifier → Span → Expression → TypedNode → ℕ → SourceType → Identifier → Core →
+      CoreStmt → CoreStmt
   for_each_code label word e array n t id from body =
       stmt (Block (n ∷ (n + 1) ∷ [])
-      (core_stmts (each.begins p.heads (written.span_of e) array n word ++ with_label label (each.turns p.heads (written.span_of e) array n word t id.span from body) ∷ [])))
+      (core_stmts (each.begins p.heads (written.span_of e) array n word ++ with_label label
+      (each.turns p.heads (written.span_of e) array n word t id.span from body) ∷ [])))
       (start_of label word) word
 
-  abbrev pub for_each_judged : Scope → Option Identifier → Span → Expression → TypedNode → ℕ → SourceType → Identifier → CoreStmt → Judged CoreStmt
+  abbrev pub for_each_judged : Scope → Option Identifier → Span → Expression → TypedNode → ℕ → SourceType →
+      Identifier → CoreStmt → Judged CoreStmt
   for_each_judged s label word e array n t id body = do
     new_name s id
     of ← need BadForEach (written.span_of e) (element_type array.type)
@@ -175,7 +182,11 @@ module _ (p : Program) (k : Known) (returning : Returning) where
     gives (label_or_inside b whole body)
 
   abbrev pub clause : Identifier → Span → Span → Progress → SourceType → Span → Done → Clause
-  clause id opening closing pr t name_span d = record { name = id; number = next_number pr; type = t; name_span = name_span; body = block_of opening closing d }
+  clause id opening closing pr t name_span d =
+      record { name = id; number = next_number pr; type = t; name_span = name_span; body = block_of opening closing d }
+
+  abbrev pub try_code : Span → Span → CoreStmt → CoreCatches → MaybeStmt → CoreStmt
+  try_code word at body catches last = stmt (Try body catches last) word at
 
   -- ---- the walk; `label` is that which stands directly before the statement
 
@@ -232,7 +243,8 @@ module _ (p : Program) (k : Known) (returning : Returning) where
     statement j label s pr (tree.for_each word is_final t id e b span) = do
       of ← body_type p s.place.here t
       array ← valued s e
-      d ← statement (in_loop j) None (with_element s pr is_final of id) (with_number p.heads id.name of is_final id.span (with_hidden (written.span_of e) array (behind s e pr))) b
+      d ← statement (in_loop j) None (with_element s pr is_final of id)
+          (with_number p.heads id.name of is_final id.span (with_hidden (written.span_of e) array (behind s e pr))) b
       code ← for_each_judged s label word e array (next_number pr) of id (alone d)
       gives (one code s d.progress)
     -- JLS 14.11
@@ -260,13 +272,14 @@ module _ (p : Program) (k : Known) (returning : Returning) where
       d ← statements j s pr b
       ds ← catches j s d.progress cs
       caught ← clauses p.heads s ds.items
-      gives (one (stmt (Try (block_of opening closing d) caught no_stmt) word word) s ds.progress)
+      gives (one (try_code word word (block_of opening closing d) caught no_stmt) s ds.progress)
     statement j label s pr (tree.try_finally word opening b closing cs at opening' c closing' span) = do
       d ← statements j s pr b
       ds ← catches j s d.progress cs
       last ← statements j s ds.progress c
       caught ← clauses p.heads s ds.items
-      gives (one (stmt (Try (block_of opening closing d) caught (a_stmt (block_of opening' closing' last))) word at) s last.progress)
+      gives (one (try_code word at (block_of opening closing d) caught (a_stmt (block_of opening' closing' last)))
+          s last.progress)
 
     -- the scope grows along a block
     pub statements : Targets → Scope → Progress → Statements → Judged Done
@@ -289,6 +302,7 @@ module _ (p : Program) (k : Known) (returning : Returning) where
     catches j s pr tree.no_catches = gives (none_done pr)
     catches j s pr (tree.more_catches is_final q id opening b closing cs) = do
       t ← body_type p s.place.here (caught_name q)
-      d ← statements j (with_local is_final (local_of id.name t is_final (next_number pr) None) s) (with_number p.heads id.name t is_final id.span pr) b
+      d ← statements j (with_local is_final (local_of id.name t is_final (next_number pr) None) s)
+          (with_number p.heads id.name t is_final id.span pr) b
       rest ← catches j s d.progress cs
       gives (one_more (clause id opening closing pr t q.span d) rest)

@@ -1,5 +1,5 @@
--- `switch` over numbers and over enums (JLS 8.9, 14.11). That over an enum selects by the places of its constants, and a label is the
--- simple name of a constant of that enum, which is looked up there alone.
+-- `switch` over numbers and over enums (JLS 8.9, 14.11). That over an enum selects by the places of its constants,
+-- and a label is the simple name of a constant of that enum, which is looked up there alone.
 use Rattle.std.specs.Prelude.{ℕ, zero, pos, Bool, List, [], ◌∷◌, Option, Some, None, if◌then◌else◌}
 use Rattle.std.specs.List.{position}
 use Rattle.je_base.specs.declared.span.NameId.{NameId}
@@ -42,7 +42,8 @@ ordinal_place = 1
 -- what is selected by: the value itself, or the place of a constant of an enum
 abbrev pub selected_by : Option ℕ → TypedNode → TypedNode
 selected_by None t = t
-selected_by (Some c) t = typed_as base.Int (Field t.node (class_numbered c) ordinal_place) (span_of t.node) (token_of t.node)
+selected_by (Some c) t =
+    typed_as base.Int (Field t.node (class_numbered c) ordinal_place) (span_of t.node) (token_of t.node)
 
 -- ---- the labels
 
