@@ -140,11 +140,12 @@ module _ (p : Program) (captured : ℕ → List CapturedLocal) (round_of : ℕ �
   abbrev pub own_captures : Place → ℕ → List (ClassId × ℕ) → List CoreCapture
   own_captures place c way = outer_capture c way ++ local_captures place c (length (outer_capture c way)) (captured c)
 
+  abbrev pub is_guest_class : ℕ → Bool
+  is_guest_class d = is_guest (site_at p.source.sites d).written && not (is_interface_sort (site_at p.source.sites d).sort)
+
   -- the class directly above one of a program, if it is one too
   abbrev pub first_class : List SourceType → Option ℕ
-  first_class (of_class d args n ∷ ts) =
-      if is_guest (site_at p.source.sites d).written && not (is_interface_sort (site_at p.source.sites d).sort) then Some d
-      else None
+  first_class (of_class d args n ∷ ts) = if is_guest_class d then Some d else None
   first_class ts = None
 
   abbrev pub superclass : ℕ → Option ℕ
