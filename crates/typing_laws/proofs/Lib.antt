@@ -8,5 +8,6 @@ pub mod Erased
 pub mod Texts
 pub mod Subtypes
 pub mod Assigned
+pub mod Assignments
 mod Rows
 mod HeadRows

@@ -41,7 +41,7 @@ string-erased : (heads : List ClassHead) → erased heads string_type ≡ string
 unfolding erased
 string-erased heads = refl
 
-string-typed : (heads : List ClassHead) (t : SourceType) → is_string t ≡ true → same_type (erased heads t) string ≡ true
+pub string-typed : (heads : List ClassHead) (t : SourceType) → is_string t ≡ true → same_type (erased heads t) string ≡ true
 string-typed heads t e = ap (λ (u : SourceType). same_type (erased heads u) string) (same-equal t string_type e) ∙ ap (λ (u : Ty). same_type u string) (string-erased heads) ∙ same_type-same string
 
 -- where one is a String, and neither is `void`

@@ -1,17 +1,21 @@
 -- What steps of typing give fits where their parts do.
-use Rattle.std.specs.Prelude.{◌≡◌, ◌||◌, Bool, true, List}
+use Rattle.std.specs.Prelude.{◌≡◌, ◌≤◌, ◌||◌, Bool, true, false, List}
 use Rattle.je_base.specs.declared.span.Span.{Span}
 use Rattle.je_core.specs.declared.expr.BinOp.{BinOp}
 use Rattle.je_core.specs.declared.expr.UnOp.{UnOp}
-use Rattle.je_core.specs.Core.{CoreProgram}
-use Rattle.je_fitting.specs.Expressions.{Body}
+use Rattle.je_core.specs.Core.{CoreProgram, form_of}
+use Rattle.je_fitting.specs.Expressions.{Body, IsPlace}
+use Rattle.je_fitting.specs.Operators.{is_step}
 use Rattle.source_types.specs.Heads.{ClassHead}
+use Rattle.source_types.specs.Subtypes.{dims_of}
+use Rattle.je_typing.specs.Assignments.{assignment, stepped, update}
 use Rattle.je_typing.specs.Literals.{literal_of}
 use Rattle.je_typing.specs.Operators.{concatenation, logical, plus, primitive_operation, unary}
 use Rattle.je_core.specs.declared.types.Base.{Base}
 use Rattle.je_typing.specs.Casts.{primitive_cast}
-use Rattle.je_typing.specs.Typed.{TypedNode, is_primitive_base, is_string}
+use Rattle.je_typing.specs.Typed.{TypedNode, is_primitive_base, is_string, is_void}
 use Rattle.je_ast.specs.declared.expr.Literal.{Literal}
+use Rattle.typing_laws.specs.Correspondence.{HasHeads}
 use Rattle.typing_laws.specs.Fitting.{BoundsFit, FitsAs, Gives}
 
 -- JLS 3.10
@@ -47,3 +51,21 @@ abbrev pub ConcatenationsFit : Type 0
 ConcatenationsFit = (p : CoreProgram) (body : Body) (heads : List ClassHead) (at span : Span) (left right : TypedNode) → BoundsFit heads →
     (is_string left.type || is_string right.type) ≡ true → FitsAs p body heads left → FitsAs p body heads right →
     Gives (FitsAs p body heads) (concatenation at span left right)
+
+-- ---- assignments (JLS 15.26), where the variable may be assigned where it stands
+
+-- JLS 15.26.1
+abbrev pub AssignmentsFit : Type 0
+AssignmentsFit = (p : CoreProgram) (body : Body) (heads : List ClassHead) (at left_span right_span span : Span) (left right : TypedNode) → HasHeads p heads →
+    dims_of left.type ≤ 255 → dims_of right.type ≤ 255 → is_void left.type ≡ false → IsPlace p body (form_of left.node) →
+    FitsAs p body heads left → FitsAs p body heads right → Gives (FitsAs p body heads) (assignment heads at left_span right_span span left right)
+
+-- JLS 15.26.2
+abbrev pub UpdatesFit : Type 0
+UpdatesFit = (p : CoreProgram) (body : Body) (heads : List ClassHead) (o : BinOp) (at left_span span : Span) (left right : TypedNode) → BoundsFit heads →
+    IsPlace p body (form_of left.node) → FitsAs p body heads left → FitsAs p body heads right → Gives (FitsAs p body heads) (update o at left_span span left right)
+
+-- JLS 15.14, 15.15.1, 15.15.2
+abbrev pub StepsFit : Type 0
+StepsFit = (p : CoreProgram) (body : Body) (heads : List ClassHead) (o : BinOp) (gives_old : Bool) (at operand_span span : Span) (operand : TypedNode) → is_step o ≡ true →
+    IsPlace p body (form_of operand.node) → FitsAs p body heads operand → Gives (FitsAs p body heads) (stepped o gives_old at operand_span span operand)

@@ -3,7 +3,7 @@
 
 ghost use Rattle.typing_laws.specs.Correspondence.{SubtypesAreErased};
 ghost use Rattle.typing_laws.specs.Passing.{AssignedValuesPass};
-ghost use Rattle.typing_laws.specs.Laws.{ConcatenationsFit, LiteralsFit, LogicalOperationsFit, PlusFits, PrimitiveCastsFit, PrimitiveOperationsFit, UnaryOperationsFit};
+ghost use Rattle.typing_laws.specs.Laws.{AssignmentsFit, ConcatenationsFit, LiteralsFit, LogicalOperationsFit, PlusFits, PrimitiveCastsFit, PrimitiveOperationsFit, StepsFit, UnaryOperationsFit, UpdatesFit};
 
 /// A literal fits.
 pub fn literals_fit()
@@ -48,4 +48,19 @@ pub fn subtypes_are_erased()
 /// A value that is assigned to a variable fits where it stands, and is of the variable's type or of a subtype.
 pub fn assigned_values_pass()
     ensures { AssignedValuesPass }
+{}
+
+/// An assignment fits where its sides do, and the variable may be assigned where it stands.
+pub fn assignments_fit()
+    ensures { AssignmentsFit }
+{}
+
+/// A compound assignment does so too.
+pub fn updates_fit()
+    ensures { UpdatesFit }
+{}
+
+/// `++` and `--` do so too.
+pub fn steps_fit()
+    ensures { StepsFit }
 {}
