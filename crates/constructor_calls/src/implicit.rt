@@ -40,8 +40,8 @@ fn plain_in(program: &Program, class: ClassId) -> Option<usize>
     }
 }
 
-// A superclass's constructor without parameters.
-fn plain_constructor(program: &Program, superclass: Option<ClassId>) -> Option<(ClassId, usize)>
+/// A superclass's constructor without parameters.
+pub fn plain_constructor(program: &Program, superclass: Option<ClassId>) -> Option<(ClassId, usize)>
     ensures { option_map member_of result ≡
         the_plain_constructor (program_view program.now) superclass }
 {

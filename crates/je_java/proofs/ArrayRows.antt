@@ -10,6 +10,7 @@ use Rattle.je_core.specs.declared.value.Value.TheVariants.{Int, Bool as Truth, N
 use Rattle.je_core.specs.declared.expr.BinOp.TheVariants.{Add}
 use Rattle.je_core.specs.Core.{Core, Index, Length, Assign, Update, Binary, InstanceOf, NewArray, ArrayOf, node, cores, maybe_core}
 use Rattle.je_classes.specs.Hierarchy.{library_class, object_class, is_below}
+use Rattle.je_classes.specs.Members.{constructor_place}
 use Rattle.je_classes.specs.Subtypes.{array_of, is_subtype}
 use Rattle.je_java.specs.Raised.{null_pointer, array_index, array_store, negative_size}
 use Rattle.je_java.specs.Steps.{Done, Thrown, Spent}
@@ -98,8 +99,8 @@ unfolding java meanings opened is_subtype is_below object_class library_class ar
 unfit_store = refl
 
 fit_store : tries 1000000 (does (expr (Assign (local 1) (new_array (array_of (type_of 1)) (number 1 ∷ [])))) ∷ does (expr (Assign (element (local 1) (number 0)) (new_of 2))) ∷ []) [] ≡
-    Done (Some zero_int) (after (Array (type_of 1) (reference_to 1 ∷ []) ∷ Instance (class_number 2) [] ∷ []) 999988 11)
-unfolding java meanings opened is_subtype is_below object_class library_class
+    Done (Some zero_int) (after (Array (type_of 1) (reference_to 1 ∷ []) ∷ Instance (class_number 2) [] ∷ []) 999987 12)
+unfolding java meanings opened is_subtype is_below constructor_place object_class library_class
 fit_store = refl
 
 -- a = new int[1]; return a[0]++;

@@ -21,6 +21,7 @@ use Rattle.je_core.specs.declared.expr.UnOp.TheVariants.{Minus, Tilde}
 use Rattle.je_core.specs.Core.{Core, CoreForm, Const, Local, This, Field, Assign, Update, Unary, Binary, And, Or, Choose, Convert, Cast, InstanceOf, CallVirtual, CallExact, New, CoreStmt, CoreStmtForm, Empty, Block, Do, If, Loop, DoLoop, Switch, Labelled, Jump, Return, Throw, Try, CoreCatch, catch, core_catches, CoreGroup, group, core_groups, CoreField, CoreMethod, CoreClass, CoreProgram, node, stmt, cores, maybe_core, core_stmts, maybe_stmt}
 use Rattle.je_java.specs.declared.call.Receiver.TheVariants as receiver
 use Rattle.je_classes.specs.Hierarchy.{library_class, object_class, is_below}
+use Rattle.je_classes.specs.Members.{constructor_place}
 use Rattle.je_classes.specs.Subtypes.{is_subtype}
 use Rattle.je_java.specs.Raised.{null_pointer, arithmetic, class_cast}
 use Rattle.je_java.specs.World.{World}
@@ -432,7 +433,8 @@ stray_jump : run (gives_n_after (forever (breaks (Some (label 0))) ∷ []) ∷ [
 unfolding java meanings opened int_wrap
 stray_jump = refl
 
--- exceptions: class 1 is E, class 2 is F, a subclass of it; local 1 is what a catch takes
+-- exceptions: class 1 is E, class 2 is F, a subclass of it; local 1 is what a catch takes. Class 0 has a constructor in the place of
+-- Object's, whose name is that of all constructors
 
 abbrev pub exception_class : Option ClassId → CoreClass
 exception_class superclass = record empty { methods = constructor ∷ []; superclass = superclass }
@@ -442,7 +444,7 @@ class_number n = record { 0 = n }
 
 abbrev pub with_exceptions : List CoreStmt → List CoreClass → CoreProgram
 with_exceptions parts more = record {
-  classes = class_of_methods (method true int (local_of int ∷ local_of class_a ∷ []) (body parts) ∷ [])
+  classes = class_of_methods (method true int (local_of int ∷ local_of class_a ∷ []) (body parts) ∷ constructor ∷ constructor ∷ [])
       ∷ exception_class None ∷ exception_class (Some (class_number 1)) ∷ more;
   texts = [];
 }
@@ -466,10 +468,11 @@ gives_one = gives (constant (Int (pos 1)))
 abbrev gives_two : CoreStmt
 gives_two = gives (constant (Int (pos 2)))
 
--- try { throw new F(); } catch (E e) { return 1; }: Block, Try, Block, Throw and its 2 nodes, Block, Return and Const
+-- try { throw new F(); } catch (E e) { return 1; }: Block, Try, Block, Throw, New and the constructors' 2 Blocks, Block, Return and
+-- Const
 caught_above : tries 1000000 (try_to (throws 2 ∷ []) (caught_as 1 (body (gives_one ∷ []))) None ∷ []) [] ≡
-    Done (Some (Int (pos 1))) (after (Instance (class_number 2) [] ∷ []) 999991 9)
-unfolding java meanings opened
+    Done (Some (Int (pos 1))) (after (Instance (class_number 2) [] ∷ []) 999990 10)
+unfolding java meanings opened constructor_place object_class library_class
 caught_above = refl
 
 -- try { throw new E(); } catch (F e) { return 1; }
@@ -480,8 +483,8 @@ not_caught_below = refl
 
 -- the first catch that takes it
 first_catch : tries 1000000 (try_to (throws 2 ∷ []) (caught_as 2 (body (gives_two ∷ [])) ++ caught_as 1 (body (gives_one ∷ []))) None ∷ []) [] ≡
-    Done (Some (Int (pos 2))) (after (Instance (class_number 2) [] ∷ []) 999991 9)
-unfolding java meanings opened
+    Done (Some (Int (pos 2))) (after (Instance (class_number 2) [] ∷ []) 999990 10)
+unfolding java meanings opened constructor_place object_class library_class
 first_catch = refl
 
 -- what is caught comes to the local: catch (E e) { throw e; }
@@ -513,8 +516,8 @@ finally_on_jump = refl
 
 -- try { throw new E(); } catch (E e) { throw new F(); } finally { n = n + 1; return n; }
 finally_after_catch : tries 1000000 (try_to (throws 1 ∷ []) (caught_as 1 (body (throws 2 ∷ []))) (Some (body (counts ∷ gives (local 0) ∷ []))) ∷ []) [] ≡
-    Done (Some (Int (pos 6))) (after (Instance (class_number 1) [] ∷ Instance (class_number 2) [] ∷ []) 999982 18)
-unfolding java meanings opened int_wrap
+    Done (Some (Int (pos 6))) (after (Instance (class_number 1) [] ∷ Instance (class_number 2) [] ∷ []) 999981 19)
+unfolding java meanings opened int_wrap constructor_place object_class library_class
 finally_after_catch = refl
 
 -- the end of the units is no exception: try { while (true) ; } catch (E e) { return 1; } finally { return 2; }
@@ -534,9 +537,9 @@ new_of class = expr (New (class_number class) 0 (cores []) [] nowhere)
 abbrev asks : Core → ℕ → List CoreStmt
 asks e class = gives (expr (InstanceOf e (type_of class))) ∷ []
 
--- new F() instanceof E, which is above F: Block, Return, InstanceOf, New and its constructor's Block
-instance_of_above : tries 1000000 (asks (new_of 2) 1) [] ≡ Done (Some (Truth true)) (after (Instance (class_number 2) [] ∷ []) 999995 5)
-unfolding java meanings opened is_subtype is_below object_class library_class
+-- new F() instanceof E, which is above F: Block, Return, InstanceOf, New and the constructors' Blocks
+instance_of_above : tries 1000000 (asks (new_of 2) 1) [] ≡ Done (Some (Truth true)) (after (Instance (class_number 2) [] ∷ []) 999994 6)
+unfolding java meanings opened is_subtype is_below constructor_place object_class library_class
 instance_of_above = refl
 
 -- new E() instanceof F
@@ -553,8 +556,8 @@ abbrev casts : Core → ℕ → List CoreStmt
 casts e class = gives (node (Cast e) (type_of class) nowhere nowhere) ∷ []
 
 -- (E) new F(), and (F) new E(), which throws, in a program whose last class is ClassCastException
-cast_up : tries 1000000 (casts (new_of 2) 1) [] ≡ Done (Some (reference 0)) (after (Instance (class_number 2) [] ∷ []) 999995 5)
-unfolding java meanings opened is_subtype is_below object_class library_class
+cast_up : tries 1000000 (casts (new_of 2) 1) [] ≡ Done (Some (reference 0)) (after (Instance (class_number 2) [] ∷ []) 999994 6)
+unfolding java meanings opened is_subtype is_below constructor_place object_class library_class
 cast_up = refl
 
 cast_down : tries 1000000 (casts (new_of 1) 2) (replicate 27 empty) ≡

@@ -3,6 +3,7 @@ use Rattle.std.proofs.Common.{◌≡◌, ℕ, zero, suc, length, List, ◌∷◌
 use Rattle.std.specs.Prelude.{true, if◌then◌else◌, Bool}
 use Rattle.je_core.specs.declared.types.ClassId.{ClassId}
 use Rattle.je_core.specs.declared.value.Value.{Value}
+use Rattle.je_core.specs.declared.value.Value.TheVariants.{Null}
 use Rattle.je_core.specs.Core.{Core, CoreProgram, form_of, ty_of}
 use Rattle.je_java.specs.Subclasses.{superclass_of, upwards_within}
 use Rattle.je_java.specs.Steps.{State, Run, Nothing, Exits, is_started, AllStarted, ret, bind, seq, get_started, put_started, initializing}
@@ -12,7 +13,7 @@ use Rattle.je_classes.specs.Hierarchy.{class_at}
 module _ (p : CoreProgram) (m : Meanings) (go : Nothing → Run) (x : Exits) (s : State) where
   first-idle : (class : ClassId) (above : List ClassId) → is_started s.outside class ≡ true → start_first p m (class ∷ above) go x s ≡ go tt s
   unfolding ret bind get_started
-  first-idle class above h = ap (λ (b : Bool). (if b then ret tt else (seq (put_started class) (seq (start_first p m above) (initializing class (run_initializers m (static_initializers (class_at p class))))))) go x s) h
+  first-idle class above h = ap (λ (b : Bool). (if b then ret tt else (seq (put_started class) (seq (start_first p m above) (initializing class (run_initializers m Null (static_initializers (class_at p class))))))) go x s) h
 
   within-idle : (n : ℕ) (class : ClassId) → is_started s.outside class ≡ true → start_first p m (upwards_within p n (Some class)) go x s ≡ go tt s
   unfolding ret

@@ -11,6 +11,7 @@ use Rattle.je_core.specs.declared.expr.BinOp.TheVariants.{Add}
 use Rattle.je_core.specs.Core.{Core, Concat, Assign, Update, CoreStmt, CoreMethod, CoreProgram, node, maybe_core}
 use Rattle.je_core.specs.Core as core
 use Rattle.je_classes.specs.Hierarchy.{library_class, object_class}
+use Rattle.je_classes.specs.Members.{constructor_place}
 use Rattle.je_classes.specs.Subtypes.{class_type}
 use Rattle.je_java.specs.LibraryClasses.{string_class, to_string_place}
 use Rattle.je_java.specs.declared.call.Receiver.TheVariants as receiver
@@ -43,7 +44,7 @@ other = method false string [] (body [])
 abbrev a_program : List CoreStmt → CoreProgram
 a_program parts = record {
   classes =
-      record (class_of_methods (method true string (local_of string ∷ []) (body parts) ∷ other ∷ other ∷ tells (text (codes "an object")) ∷ [])) { fields = [] } ∷
+      record (class_of_methods (record (method true string (local_of string ∷ []) (body parts)) { params = string ∷ [] } ∷ other ∷ other ∷ tells (text (codes "an object")) ∷ [])) { fields = [] } ∷
       record (class_of_methods []) { fields = [] } ∷
       record (class_of_methods (other ∷ tells (constant Null) ∷ [])) { fields = []; superclass = Some (class_number 0) } ∷
       record (class_of_methods (other ∷ [])) { fields = []; superclass = Some (class_number 0) } ∷ [];
@@ -89,17 +90,17 @@ too_dear : runs 8 (gives (joined (text (codes "ab")) (constant (Int (pos 12)))) 
 unfolding java meanings opened object_class library_class to_string_place string_class digits
 too_dear = refl
 
--- an object's `toString()` is called: Block, Return, Concat, Text, New and the constructor's Block; then Block, Return and Text, and
--- 11 units
+-- an object's `toString()` is called: Block, Return, Concat, Text, New and the constructors' 2 Blocks; then Block, Return and Text,
+-- and 11 units
 with_object : runs 1000000 (gives (joined (text (codes "ab")) (new_of 3)) ∷ []) ≡
-    comes_to (reference_to 3) (Instance (class_number 3) [] ∷ Text (codes "aban object") ∷ []) 999980 9
-unfolding java meanings opened object_class library_class to_string_place string_class
+    comes_to (reference_to 3) (Instance (class_number 3) [] ∷ Text (codes "aban object") ∷ []) 999979 10
+unfolding java meanings opened constructor_place object_class library_class to_string_place string_class
 with_object = refl
 
 -- a `toString()` that gives null
 told_null : runs 1000000 (gives (joined (new_of 2) (text (codes "ab"))) ∷ []) ≡
-    comes_to (reference_to 3) (Instance (class_number 2) [] ∷ Text (codes "nullab") ∷ []) 999985 9
-unfolding java meanings opened object_class library_class to_string_place string_class
+    comes_to (reference_to 3) (Instance (class_number 2) [] ∷ Text (codes "nullab") ∷ []) 999984 10
+unfolding java meanings opened constructor_place object_class library_class to_string_place string_class
 told_null = refl
 
 -- s += 1; return s; on null: the Block, Do, Update and Const and 5 units, Return and Local

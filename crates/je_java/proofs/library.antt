@@ -10,4 +10,5 @@ pub mod BuilderRows
 pub mod NumberRows
 pub mod ObjectRows
 pub mod CallRows
+pub mod ConstructorRows
 pub mod Complete

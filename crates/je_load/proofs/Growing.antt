@@ -8,13 +8,14 @@ use Rattle.je_core.specs.Core.{CoreClass, CoreProgram}
 use Rattle.je_core.specs.declared.types.ClassId.{ClassId}
 use Rattle.je_core.specs.declared.value.ObjId.{ObjId}
 use Rattle.je_core.specs.declared.value.Value.{Value}
+use Rattle.je_core.specs.declared.value.Value.TheVariants.{Null}
 use Rattle.je_classes.specs.Hierarchy.{class_at}
 use Rattle.je_java.specs.Meaning.{java, state_at, start, start_first, run_initializers, static_initializers}
 use Rattle.je_java.specs.Steps.{State, Outside, Public, Answer, Done, ThrownInStart, Spent, Wrong, Run, Computation, Nothing, is_started, AllStarted, with_started, with_outside, ret, bind, seq, get_started, put_started, initializing}
 use Rattle.je_java.specs.Subclasses.{superclass_of, upwards_within}
 use Rattle.je_java.specs.World.{class_of, type_of, extent_of, count_of, slot_of, with_slot, units_of, held_by, with_units_at}
 use Rattle.je_java.proofs.Alike.{value-alike, object-alike, value-itself, values-itself, option-itself}
-use Rattle.je_java.proofs.Pairs.{Parts, Laws, OptionRel, ValueRel, StateRel, ExitsRel, Rel, Equal}
+use Rattle.je_java.proofs.Pairs.{Parts, Laws, OptionRel, ValueRel, null, StateRel, ExitsRel, Rel, Equal}
 use Rattle.je_java.proofs.Related.{first-related, initializers-related}
 use Rattle.je_java.proofs.Combinators.{rel-seq, rel-initializing}
 use Rattle.je_worlds.proofs.Calls.{Begins, java-good}
@@ -127,14 +128,14 @@ module _ (Fine : Answer → Type 0) (fine-wrong : Fine Wrong) (fine-spent : (s :
     first-starts above go h s among = by (is_started s.outside class) refl
       where
         rest : Computation Nothing
-        rest = seq (start_first p (java p) above) (initializing class (run_initializers (java p) (static_initializers (class_at p class))))
+        rest = seq (start_first p (java p) above) (initializing class (run_initializers (java p) Null (static_initializers (class_at p class))))
 
         by : (b : Bool) → is_started s.outside class ≡ b → Fine ((if b then ret tt else seq (put_started class) rest) go no_exits s)
         by true e = h s (more-before class s.outside among e)
         by false e =
             let laws = alone-laws (More These class) in
             let g = java-good laws (alone-begins (More These class)) p in
-            goes-on (More These class) (rel-seq (first-related laws p g 0 above) λ i l. rel-initializing laws class (initializers-related laws p g i (static_initializers (class_at p class)))) go h
+            goes-on (More These class) (rel-seq (first-related laws p g 0 above) λ i l. rel-initializing laws class (initializers-related laws p g (static_initializers (class_at p class)) null)) go h
             (with_outside s (with_started s.outside class)) (more-now class s.outside among)
 
     upwards-starts : (n : ℕ) (go : Nothing → Run) → 0 < n → ((s : State) → Among count (More These class) s.outside → Fine (go tt s)) →

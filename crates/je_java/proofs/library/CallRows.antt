@@ -13,6 +13,7 @@ use Rattle.je_core.specs.Core.{Core, Assign, This, Concat, CallVirtual, CallExac
 use Rattle.je_core.specs.Core as core
 use Rattle.je_classes.specs.Subtypes.{class_type, array_of, is_subtype}
 use Rattle.je_classes.specs.Hierarchy.{is_below}
+use Rattle.je_classes.specs.Members.{constructor_place}
 use Rattle.je_table.specs.declared.classes.LibraryClass.{LibraryClass}
 use Rattle.je_table.specs.declared.classes.LibraryClass.TheVariants as class
 use Rattle.je_java.specs.declared.call.Receiver.TheVariants as receiver
@@ -91,10 +92,10 @@ compares_no_text : runs (gives (call_of (text (codes "ab")) class.Comparable (co
 unfolding java meanings library_opened is_subtype is_below class_cast
 compares_no_text = refl
 
--- return new E().getMessage();: Block, Return, the call, New and its slot; the constructor's Block, Do, call, This and Text
+-- return new E().getMessage();: Block, Return, the call, New and its slot; the constructor's Block, and Text
 message : runs (gives (call_of (expr (New (class_number 40) 0 (cores []) [] nowhere)) class.Throwable (codes "getMessage()") []) ∷ []) ≡
-    comes_to (reference 0) (Instance (class_number 40) (reference 0 ∷ []) ∷ []) 999990 9
-unfolding java meanings library_opened
+    comes_to (reference 0) (Instance (class_number 40) (reference 0 ∷ []) ∷ []) 999993 6
+unfolding java meanings library_opened constructor_place
 message = refl
 
 -- return Math.max(3, 5);
