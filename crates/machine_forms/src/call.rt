@@ -7,7 +7,7 @@ ghost use Rattle.je_core.specs.View.{view, form_view, views, capture_view, stmt_
 ghost use Rattle.je_java.specs.Classes.{locals_for as the_locals_for};
 ghost use Rattle.je_java.specs.Steps.{bind, framed};
 ghost use Rattle.je_java.specs.LibraryMembers.{run_library as the_run_library};
-ghost use Rattle.je_java.specs.Meaning.{member_at, run_member as the_run_member, run_virtual, run_instance, run_named as the_run_named, run_exact, run_new, is_maker as the_is_maker, new_instance, construct as the_construct, hand_over as the_hand_over, apply as the_apply, args_of, receiver_of, with_values, adding, call_from as the_call_from, start_call as the_start_call, begin_call as the_begin_call};
+ghost use Rattle.je_java.specs.Meaning.{member_at, run_member as the_run_member, run_constructor as the_run_constructor, run_virtual, run_instance, run_named as the_run_named, run_exact, run_new, is_maker as the_is_maker, new_instance, construct as the_construct, hand_over as the_hand_over, apply as the_apply, args_of, receiver_of, with_values, adding, call_from as the_call_from, start_call as the_start_call, begin_call as the_begin_call};
 ghost use Rattle.machine_parts.specs.Ways.{built_or, height, gives};
 
 use crate::argument::hand_on;
@@ -109,6 +109,58 @@ fn run_member(
 {
     match body(method)? {
         Some(body) => enter(context, method, body, this, values, built),
+        None => call_library(context, heap, program, class, at, this, values, built),
+    }
+}
+
+// Enters the body of a constructor of a class.
+fn enter_constructor(
+    context: &mut Context,
+    class: ClassId,
+    constructor: &Method,
+    body: Rc<Stmt>,
+    this: Value,
+    values: Slots,
+    built: Option<Value>,
+) -> Result<Control, Memory>
+    ensures goes { IfOk result (GoesAhead context.old context.new (λ p m k.
+        framed (record { this = this; locals = the_locals_for (method_view constructor.now) values })
+        (default_of (method_view constructor.now).returns) (m.build class (stmt_view body.value))
+        (built_or built k.give) k.out)) }
+    ensures short { IfOk result (λ c. height context.new + gives c ≤ height context.old + 1) }
+    ensures begun { context.new.begun ≡ context.old.begun }
+{
+    let locals = locals_for(constructor, values)?;
+    let caller = mem::replace(&mut context.env, Env { this, locals });
+    context.frames.push(Frame::Called {
+        caller,
+        result: constructor.returns.default_value(),
+        built,
+    })?;
+    Ok(Control::Build { class, body })
+}
+
+// A constructor of a number of a class: its body is entered; one of the library, which has none, is run.
+fn run_constructor(
+    context: &mut Context,
+    heap: &mut Heap,
+    program: &Program,
+    class: ClassId,
+    at: usize,
+    constructor: &Method,
+    this: Value,
+    values: Slots,
+    built: Option<Value>,
+) -> Result<Control, Memory>
+    ensures goes { IfOk result (GoesAheadOver program.now
+        context.old heap.old context.new heap.new (λ p m k. the_run_constructor p m
+        (member_at class at) (method_view constructor.now) this values
+        (built_or built k.give) k.out)) }
+    ensures short { IfOk result (λ c. height context.new + gives c ≤ height context.old + 1) }
+    ensures begun { context.new.begun ≡ context.old.begun }
+{
+    match body(constructor)? {
+        Some(body) => enter_constructor(context, class, constructor, body, this, values, built),
         None => call_library(context, heap, program, class, at, this, values, built),
     }
 }
@@ -245,7 +297,7 @@ fn construct(
     let Some(constructor) = method(program, class, at) else {
         return Ok(Control::Wrong);
     };
-    run_member(
+    run_constructor(
         context,
         heap,
         program,
@@ -397,7 +449,8 @@ fn args(form: &Form) -> Option<&Vec<Rc<Expr>>>
     }
 }
 
-fn arg_at(form: &Form, at: usize) -> Result<Option<Rc<Expr>>, Memory>
+/// The argument of a place of a call.
+pub fn arg_at(form: &Form, at: usize) -> Result<Option<Rc<Expr>>, Memory>
     ensures goes { IfOk result (NextExpr (args_of (form_view form.now)) at) }
     ensures room { IfOk result (λ found. IsSome found → at + 1 < 2 ^ 64) }
 {

@@ -1,4 +1,5 @@
 pub mod Lists
+pub mod Initializers
 pub mod Seen
 pub mod Subclasses
 pub mod Results

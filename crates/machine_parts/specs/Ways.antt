@@ -2,25 +2,28 @@
 -- of Java's evaluation (JLS 14 and 15), behind the part that is being evaluated.
 use Rattle.std.specs.Prelude.{ℕ, ◌+◌, ◌*◌, length, List, [], ◌∷◌, ◌++◌, drop, Option, Some, None, Bool, true, false}
 use Rattle.je_base.specs.declared.span.NameId.{NameId}
+use Rattle.je_core.specs.declared.types.ClassId.{ClassId}
 use Rattle.je_core.specs.declared.value.ObjId.{ObjId}
 use Rattle.je_core.specs.declared.value.Value.{Value}
-use Rattle.je_core.specs.Core.{CoreStmt, CoreStmtForm, Block, Switch, Try, CoreCatch, CoreGroup, MaybeStmt, no_stmt, a_stmt, CoreProgram, stmt_list_of, catch_list_of, group_list_of}
+use Rattle.je_core.specs.Core.{CoreForm, CoreStmt, CoreStmtForm, Switch, Try, CoreCatch, CoreGroup, MaybeStmt, no_stmt, a_stmt, CoreProgram, catch_list_of, group_list_of}
 use Rattle.je_core.specs.View.{view, form_view, stmt_view, stmt_form_view}
 use Rattle.je_heap.specs.Contents.{Contents}
-use Rattle.je_core.specs.declared.value.Value.TheVariants.{Bool as Truth}
-use Rattle.je_java.specs.Steps.{State, Outside, Own, Done as DoneRun, Thrown, Spent, Wrong, Run, Exits, Computation, Nothing, ret, ◌>>=◌, leave, takes, is_label, landing, breaking, after_all, throw_value, out_of, with_own, put_local, binary, unary, convert, is_instance, cast, branch, read_field, write_field, read_static, write_static}
+use Rattle.je_core.specs.declared.value.Value.TheVariants.{Bool as Truth, Null}
+use Rattle.je_java.specs.Steps.{State, Outside, Own, Done as DoneRun, Thrown, Spent, Wrong, Run, Exits, Computation, Nothing, ret, ◌>>=◌, ◌>>◌, leave, takes, is_label, landing, breaking, after_all, throw_value, out_of, with_own, put_local, binary, unary, convert, is_instance, cast, branch, read_field, write_field, read_static, write_static}
+use Rattle.je_java.specs.Constructors.{parts_of, called_constructor, is_of}
 use Rattle.je_java.specs.Arrays.{length_of, read_element, write_element}
 use Rattle.je_java.specs.Texts.{concatenated}
-use Rattle.je_java.specs.Meaning.{Meanings, block, tested, further, labels_of, caught, parts_in, fallen_through, switched, update_object, update_at, update_by, set_variable, call_from, start_call, to_string, call_by, ends, nobody}
+use Rattle.je_java.specs.Meaning.{Meanings, block, tested, further, labels_of, caught, parts_in, fallen_through, switched, update_object, update_at, update_by, set_variable, call_from, start_call, to_string, constructor_from, initialized, completed, call_by, ends, nobody}
 use Rattle.machine_parts.specs.Telling.{told_by}
 use Rattle.machine_parts.specs.declared.frame.Frame.{Frame}
-use Rattle.machine_parts.specs.declared.frame.Frame.TheVariants.{ReadField, SetLocal, SetObject, SetField, ReadStatic, SetBefore, SetStatic, ReadArray, ReadElement, Length as LengthFrame, SetArray, SetIndex, SetElement, UpdateObject, UpdateIndex, Update as UpdateFrame, Operand, Converted, Cast as CastFrame, InstanceOf as InstanceFrame, Left, Right, And as AndFrame, Or as OrFrame, Choose as ChooseFrame, Test, Body, Steps, Labelled as LabelledFrame, Switch as SwitchFrame, Cases, Try as TryFrame, Finally, Finishing, Thrown as ThrownFrame, Receiver, Args, Called, Parts, Ignored, Returned, ConcatLeft, ConcatRight, Telling}
+use Rattle.machine_parts.specs.declared.frame.Frame.TheVariants.{ReadField, SetLocal, SetObject, SetField, ReadStatic, SetBefore, SetStatic, ReadArray, ReadElement, Length as LengthFrame, SetArray, SetIndex, SetElement, UpdateObject, UpdateIndex, Update as UpdateFrame, Operand, Converted, Cast as CastFrame, InstanceOf as InstanceFrame, Left, Right, And as AndFrame, Or as OrFrame, Choose as ChooseFrame, Test, Body, Steps, Labelled as LabelledFrame, Switch as SwitchFrame, Cases, Try as TryFrame, Finally, Finishing, Thrown as ThrownFrame, Receiver, Args, Called, ConstructorArgs, Constructor as ConstructorFrame, Initializer as InitializerFrame, Parts, Ignored, Returned, ConcatLeft, ConcatRight, Telling}
 use Rattle.machine_parts.specs.declared.frame.Env.{Env}
+use Rattle.machine_parts.specs.declared.frame.Rest.{Rest}
 use Rattle.machine_parts.specs.declared.frame.End.{End}
 use Rattle.machine_parts.specs.declared.frame.End.TheVariants.{Next as NextEnd, Leave as LeaveEnd, Throw as ThrowEnd, Jump as JumpEnd}
 use Rattle.machine_parts.specs.declared.frame.Context.{Context}
 use Rattle.machine_parts.specs.declared.frame.Control.{Control}
-use Rattle.machine_parts.specs.declared.frame.Control.TheVariants.{Start, Eval, Exec, Give, Next, Leave, Throw, Jump, Done as DoneHere, Thrown as ThrownHere, Spent as SpentHere, Wrong as WrongHere, Memory}
+use Rattle.machine_parts.specs.declared.frame.Control.TheVariants.{Start, Eval, Exec, Build, Give, Next, Leave, Throw, Jump, Done as DoneHere, Thrown as ThrownHere, Spent as SpentHere, Wrong as WrongHere, Memory}
 
 -- where a run goes on: with a value, after a statement, and the ways out
 pub record Ways : Type 0 where
@@ -45,9 +48,13 @@ doing f k = record { give = λ v. ended (f v) k; next = k.next; out = k.out }
 abbrev pub going : Computation Nothing → Ways → Ways
 going m k = record { give = k.give; next = λ u. ended m k; out = k.out }
 
-abbrev pub parts_of : CoreStmtForm → List CoreStmt
-parts_of (Block locals parts) = stmt_list_of parts
-parts_of _ = []
+-- what follows an explicit constructor call
+abbrev pub called_behind : CoreProgram → Meanings → ClassId → CoreStmtForm → CoreForm → Computation Nothing
+called_behind program m class form call = completed program m class form (is_of class (called_constructor call)) 1
+
+-- how a body goes on behind the constructor that it begins with
+abbrev pub goes_on : CoreProgram → Meanings → Rest → Computation Nothing
+goes_on program m rest = completed program m rest.class (stmt_form_view rest.body.value.form) rest.is_initialized rest.next
 
 abbrev pub own_of : Env → Own
 own_of env = record { this = env.this; locals = env.locals }
@@ -60,6 +67,10 @@ built_or (Some object) go = λ dropped. go object
 -- the ways on of a called body: the caller's own variables come back
 abbrev pub called : Own → Value → (Value → Run) → Ways → Ways
 called own result give k = record { give = λ v s. give v (with_own s own); next = λ u s. give result (with_own s own); out = out_of own give k.out }
+
+-- those of a body whose value is dropped, and behind which another computation runs
+abbrev pub followed : Own → Computation Nothing → Ways → Ways
+followed own m k = called own Null (λ dropped. ended m k) k
 
 -- a body that is done again, and to which jumps may come
 abbrev pub turning : (Option NameId → Bool) → Computation Nothing → Ways → Ways
@@ -166,6 +177,12 @@ frame_ways program m (LabelledFrame label node) k = landed (is_label label) (m.a
 frame_ways program m (Receiver call) k = giving (λ this. start_call program m call.value.ty (form_view call.value.form) this) k
 frame_ways program m (Args call this next done) k = giving (λ v. call_from program m call.value.ty (form_view call.value.form) this next (done ++ v ∷ [])) k
 frame_ways program m (Called caller result built) k = called (own_of caller) result (built_or built k.give) k
+frame_ways program m (ConstructorArgs class body call next done) k = doing (λ v. do
+  constructor_from program m (form_view call.value.form) next (done ++ v ∷ [])
+  called_behind program m class (stmt_form_view body.value.form) (form_view call.value.form)) k
+frame_ways program m (ConstructorFrame caller rest) k = followed (own_of caller) (goes_on program m rest) k
+frame_ways program m (InitializerFrame caller class at body next) k =
+    followed (own_of caller) (initialized program m class (stmt_form_view body.value.form) at next) k
 frame_ways program m (Parts node next) k = going (block m (drop next (parts_of (stmt_form_view node.value.form)))) k
 frame_ways program m Ignored k = doing (λ v. ret tt) k
 frame_ways program m Returned k = doing (λ v. leave v) k
@@ -186,6 +203,7 @@ resume program m k (Start call) fs =
     λ s. call_by program m call.receiver call.class call.method call.args DoneRun ends (with_own s nobody)
 resume program m k (Eval e) fs = valued (m.eval (view e.value)) (waits program m k fs)
 resume program m k (Exec s) fs = ended (m.exec (stmt_view s.value)) (waits program m k fs)
+resume program m k (Build class body) fs = ended (m.build class (stmt_view body.value)) (waits program m k fs)
 resume program m k (Give v) fs = (waits program m k fs).give v
 resume program m k Next fs = (waits program m k fs).next tt
 resume program m k (Leave v) fs = (waits program m k fs).out.leave v

@@ -18,6 +18,8 @@ pub enum Control {
     Eval(Rc<Expr>),
     /// Begin a statement.
     Exec(Rc<Stmt>),
+    /// Begin the body of a constructor of that class.
+    Build { class: ClassId, body: Rc<Stmt> },
     /// Hand a value to the newest frame.
     Give(Value),
     /// Go on after a statement.
@@ -116,6 +118,17 @@ pub enum Told {
     Left { right: Value, sum: Sum },
     /// It is that of the right operand: the text of the left one waits.
     Right { front: Units, sum: Sum },
+}
+
+/// How the body of a constructor of a class goes on behind the constructor that it begins with.
+#[derive(Drop)]
+pub struct Rest {
+    pub class: ClassId,
+    pub body: Rc<Stmt>,
+    /// Whether the initializers have been run.
+    pub is_initialized: bool,
+    /// The place of the statement that comes then.
+    pub next: usize,
 }
 
 /// What waits for a part of a node.
@@ -298,6 +311,29 @@ pub enum Frame {
         caller: Env,
         result: Value,
         built: Option<Value>,
+    },
+    /// The argument before `next` of a constructor call is being evaluated, with which the body of a constructor of that
+    /// class begins.
+    ConstructorArgs {
+        class: ClassId,
+        body: Rc<Stmt>,
+        call: Rc<Expr>,
+        next: usize,
+        done: Slots,
+    },
+    /// The constructor runs that the body of another one begins with: what that one had, and how it goes on.
+    Constructor {
+        caller: Env,
+        rest: Rest,
+    },
+    /// An initializer before place `at` runs: what its constructor had, and the place of the statement with which that
+    /// one's body then goes on.
+    Initializer {
+        caller: Env,
+        class: ClassId,
+        at: usize,
+        body: Rc<Stmt>,
+        next: usize,
     },
     /// The statement before `next` of a block runs.
     Parts {

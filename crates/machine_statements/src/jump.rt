@@ -106,6 +106,7 @@ pub fn jump(
             finish(&node.form, End::Jump { again, label }, &mut context.frames)
         }
         Frame::Called { .. } | Frame::Telling { .. } => Ok(Control::Wrong),
+        Frame::Constructor { .. } | Frame::Initializer { .. } => Ok(Control::Wrong),
         _ => Ok(Control::Jump { again, label }),
     }
 }

@@ -6,7 +6,8 @@ ghost use Rattle.je_core.specs.View.{view, stmt_view, stmt_view_if, stmt_form_vi
 ghost use Rattle.je_java.specs.Steps.{ret, seq, bind, leave as the_leave, jump as the_jump, wrong as the_wrong};
 ghost use Rattle.je_java.specs.Meaning.{block as the_block, exec_maybe, taken as the_taken, taken_in, passed as the_passed, passed_in, labels_of, tested, exec_form};
 ghost use Rattle.je_core.specs.Core.{maybe_stmt};
-ghost use Rattle.machine_parts.specs.Ways.{gives, height, parts_of};
+ghost use Rattle.je_java.specs.Constructors.{parts_of};
+ghost use Rattle.machine_parts.specs.Ways.{gives, height};
 
 use crate::catch::{begin_throw, begin_try};
 use crate::switch::begin_switch;

@@ -1,6 +1,6 @@
 -- What a control stands for, before frames and in a state: the clauses of the functions that begin a node or take what
 -- comes.
-use Rattle.std.specs.Prelude.{◌≡◌, ◌≢◌, ◌<◌, ◌+◌, ℕ, List, [], ◌∷◌, drop, Option, Some, None, Bool, if◌then◌else◌}
+use Rattle.std.specs.Prelude.{◌≡◌, ◌≢◌, ◌<◌, ◌+◌, ℕ, List, [], ◌∷◌, drop, filter, Option, Some, None, Bool, if◌then◌else◌}
 use Rattle.std.specs.declared.rc.Rc.{Rc}
 use Rattle.std.specs.declared.alloc.Global.{Global}
 use Rattle.je_core.specs.declared.value.ObjId.{ObjId}
@@ -11,12 +11,13 @@ use Rattle.je_core.specs.declared.types.Ty.{Ty}
 use Rattle.je_core.specs.declared.program.Program.{Program}
 use Rattle.je_core.specs.declared.expr.Expr.{Expr}
 use Rattle.je_core.specs.declared.stmt.Stmt.{Stmt}
-use Rattle.je_core.specs.Core.{Core, CoreForm, Update, CoreStmt, CoreGroup, CoreProgram, form_of, option_of}
+use Rattle.je_core.specs.Core.{Core, CoreForm, Update, CoreStmt, CoreGroup, CoreInitializer, CoreProgram, form_of, option_of}
 use Rattle.je_core.specs.View.{view, stmt_view, program_view}
 use Rattle.je_heap.specs.Contents.{Contents}
 use Rattle.je_java.specs.Steps.{State, Outside, AllStarted, Own, Done, Spent, Wrong, Run, Exits, Computation, Nothing, ◌>>◌, ret, wrong, raise, throw, put_local, with_own, make}
 use Rattle.je_java.specs.Raised.{null_pointer, array_index, array_store}
 use Rattle.je_java.specs.Arrays.{storable}
+use Rattle.je_java.specs.Constructors.{is_of_instance}
 use Rattle.je_java.specs.Meaning.{Meanings, fetched, java, ends, nobody}
 use Rattle.machine_parts.specs.declared.frame.Frame.{Frame}
 use Rattle.machine_parts.specs.declared.frame.Env.{Env}
@@ -154,10 +155,10 @@ RunsToEnd program old before new after f c = (k : Ways) (outside : Outside) →
     run_from program k c new.frames (state new after outside) ≡ ended (f (java (program_view program))) (waits (program_view program) (java (program_view program)) k old.frames) (state old before outside)
 
 -- the control is a body with these variables and nothing behind it
-abbrev pub BeginsBody : Program → Context → Contents → Context → Stmt → Own → Control → Type 0
-BeginsBody program old heap new body own c = (k : Ways) (outside : Outside) →
-    run_from program k c new.frames (state new heap outside) ≡
-    ended ((java (program_view program)).exec (stmt_view body)) k (state_of old.units old.begun heap outside own)
+abbrev pub BeginsBody : Program → Context → Contents → Context → Contents → (Meanings → Computation Nothing) → Own → Control → Type 0
+BeginsBody program old before new after body own c = (k : Ways) (outside : Outside) →
+    run_from program k c new.frames (state new after outside) ≡
+    ended (body (java (program_view program))) k (state_of old.units old.begun before outside own)
 
 -- before the new frames the control is what comes to a statement's end before the old ones
 abbrev pub RunsOn : List Frame → List Frame → (Meanings → Computation Nothing) → Control → Type 0
@@ -256,10 +257,21 @@ Stores program heap element value found = (go : Nothing → Run) (exits : Exits)
     stored_ways (program_view program) found go exits (state_of units begun heap outside own) ≡
     storable (program_view program) element value go exits (state_of units begun heap outside own)
 
+-- the first of some initializers, and those of instances among the others
+abbrev pub from_first : List CoreInitializer → List CoreInitializer
+from_first [] = []
+from_first (initializer ∷ initializers) = initializer ∷ filter is_of_instance initializers
+
 -- the next statement of some groups from a place on, and the place behind it
 abbrev pub NextCase : List CoreGroup → ℕ → ℕ → Option (ℕ × ℕ × Rc Stmt Global) → Type 0
 NextCase groups at next None = rest_of groups at next ≡ []
 NextCase groups at next (Some (at', next', part)) = rest_of groups at next ≡ stmt_view part.value ∷ rest_of groups at' next'
+
+-- the place of the next initializer of instances among some, or that there is none
+abbrev pub NextInitializer : List CoreInitializer → ℕ → Option ℕ → Type 0
+NextInitializer initializers at None = filter is_of_instance (drop at initializers) ≡ []
+NextInitializer initializers at (Some next) =
+    filter is_of_instance (drop at initializers) ≡ from_first (drop next initializers)
 
 -- the next expression of a list, or its end
 abbrev pub NextExpr : List Core → ℕ → Option (Rc Expr Global) → Type 0

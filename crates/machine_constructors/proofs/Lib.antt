@@ -1,0 +1,2 @@
+pub mod Initializing
+pub mod Building
