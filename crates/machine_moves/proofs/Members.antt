@@ -33,15 +33,20 @@ module _ (p : CoreProgram) (m : Meanings) (class : ClassId) (at : ℕ) (method :
   pub without_body : None ≡ method.body → run_library p class at this given ≡ run_member p m (member_at class at) method this given
   without_body e = ap (λ (b : Option CoreStmt). if is_none b then run_library p class at this given else run_method m method this given) e
 
+-- what a method's body comes to with its receiver and its arguments, by what runs it
+abbrev run_body : (CoreStmt → Computation Nothing) → CoreMethod → Value → List Value → Computation Value
+run_body run method this given =
+    bind (need method.body) (λ body. framed (record { this = this; locals = locals_for method given }) (default_of method.returns) (run body))
+
 -- what a body comes to is the reply, also where it ends without a return
-body_replies : (m : Meanings) (method : CoreMethod) (this : Value) (given : List Value) (body : CoreStmt) (r : Reply) (s : State)
+body_replies : (run : CoreStmt → Computation Nothing) (method : CoreMethod) (this : Value) (given : List Value) (body : CoreStmt) (r : Reply) (s : State)
     → Some body ≡ method.body → replied r (at_end r) ≡ replied r (default_of method.returns)
-    → ended (m.exec body) (outermost r) (with_own s (record { this = this; locals = locals_for method given }))
-    ≡ bind (run_method m method this given) (λ value. ret (replied r value)) Done ends (with_own s nobody)
+    → ended (run body) (outermost r) (with_own s (record { this = this; locals = locals_for method given }))
+    ≡ bind (run_body run method this given) (λ value. ret (replied r value)) Done ends (with_own s nobody)
 unfolding ret bind need framed
-body_replies m method this given body r s b e =
-    ap (λ (o : Option Value). m.exec body (λ u t. Done o (with_own t nobody)) (out_of nobody (λ v. Done (replied r v)) ends) (with_own s (record { this = this; locals = locals_for method given }))) e
-    ∙ ap (λ (o : Option CoreStmt). bind (bind (need o) (λ c. framed (record { this = this; locals = locals_for method given }) (default_of method.returns) (m.exec c))) (λ value. ret (replied r value)) Done ends (with_own s nobody)) b
+body_replies run method this given body r s b e =
+    ap (λ (o : Option Value). run body (λ u t. Done o (with_own t nobody)) (out_of nobody (λ v. Done (replied r v)) ends) (with_own s (record { this = this; locals = locals_for method given }))) e
+    ∙ ap (λ (o : Option CoreStmt). bind (bind (need o) (λ c. framed (record { this = this; locals = locals_for method given }) (default_of method.returns) (run c))) (λ value. ret (replied r value)) Done ends (with_own s nobody)) b
 
 module _ {E : Type 0} (program : Program) (old : Context) (before : Contents) (r : Reply) (new : Context) where
   -- by an equation between what is gone on to
@@ -51,15 +56,15 @@ module _ {E : Type 0} (program : Program) (old : Context) (before : Contents) (r
   replies_alike after f g e (Ok c) h = λ outside. h outside ∙ ap (λ (n : Computation (Option Value)). n Done ends (with_own (state old before outside) nobody)) e
   replies_alike after f g e (Err x) h = h
 
-  pub body_goes : (method : CoreMethod) (this : Value) (given locals : List Value) (body : Stmt)
+  pub body_goes : (after : Contents) (run : Meanings → CoreStmt → Computation Nothing) (method : CoreMethod) (this : Value) (given locals : List Value) (body : Stmt)
       → locals ≡ locals_for method given → Some (stmt_view body) ≡ method.body → replied r (at_end r) ≡ replied r (default_of method.returns)
-      → (c : Result Control E) → IfOk c (BeginsBody program old before new body (record { this = this; locals = locals }))
-      → IfOk c (GoesToReply program old before r new before (λ p m. bind (run_method m method this given) (λ value. ret (replied r value))))
-  body_goes method this given locals body l b e (Ok c) h =
+      → (c : Result Control E) → IfOk c (BeginsBody program old before new after (λ m. run m (stmt_view body)) (record { this = this; locals = locals }))
+      → IfOk c (GoesToReply program old before r new after (λ p m. bind (run_body (run m) method this given) (λ value. ret (replied r value))))
+  body_goes after run method this given locals body l b e (Ok c) h =
       λ outside. h (outermost r) outside
-      ∙ ap (λ (ls : List Value). ended ((java (program_view program)).exec (stmt_view body)) (outermost r) (state_of old.units old.begun before outside (record { this = this; locals = ls }))) l
-      ∙ body_replies (java (program_view program)) method this given (stmt_view body) r (state old before outside) b e
-  body_goes method this given locals body l b e (Err x) h = h
+      ∙ ap (λ (ls : List Value). ended (run (java (program_view program)) (stmt_view body)) (outermost r) (state_of old.units old.begun before outside (record { this = this; locals = ls }))) l
+      ∙ body_replies (run (java (program_view program))) method this given (stmt_view body) r (state old before outside) b e
+  body_goes after run method this given locals body l b e (Err x) h = h
 
 there : {A : Type 0} (o : Option A) (a : A) (go : A → Answer) → o ≡ Some a → on_some o go ≡ go a
 there o a go e = ap (λ o'. on_some o' go) e

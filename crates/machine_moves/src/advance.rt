@@ -6,7 +6,7 @@ ghost use Rattle.machine_parts.specs.declared.frame.Control.TheVariants.{Memory 
 ghost use Rattle.machine_parts.specs.way.Clauses.{GoesOutOver, RunsOut, RunsOutOver, GoesOn, FallsFrom, Stays};
 
 use crate::give::{give, leave, next, throw};
-use crate::node::{eval, exec};
+use crate::node::{build, eval, exec};
 use crate::start::start;
 use je_base::NameId;
 use je_core::{Memory, ObjId, Program, Value};
@@ -138,6 +138,7 @@ pub fn advance(
         Control::Start(call) => start(context, heap, program, reply, call),
         Control::Eval(node) => eval(context, heap, program, node),
         Control::Exec(node) => exec(context, program, heap, node),
+        Control::Build { class, body } => build(context, heap, program, class, body),
         Control::Give(value) => give_newest(context, heap, program, *reply, value),
         Control::Next => next_newest(context, heap, program, *reply),
         Control::Leave(value) => leave_newest(context, heap, program, *reply, value),

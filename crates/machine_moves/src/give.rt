@@ -8,6 +8,8 @@ ghost use Rattle.machine_parts.specs.Ways.{frame_ways, height, gives};
 
 use je_core::{BinOp, ClassId, Expr, Memory, ObjId, Program, Value};
 use je_heap::Heap;
+use machine_constructors::build::constructor_from;
+use machine_constructors::initialize::{completed, initialized};
 use machine_forms::array::{begin_index, begin_set_element, begin_set_index};
 use machine_forms::call::{call_from, start_call};
 use machine_forms::concat::{begin_concat_right, concat, tell_on};
@@ -146,6 +148,30 @@ pub fn give(
             context.env = caller;
             Ok(Control::Give(built.unwrap_or(value)))
         }
+        Frame::ConstructorArgs {
+            class,
+            body,
+            call,
+            next,
+            mut done,
+        } => {
+            done.push(value)?;
+            constructor_from(context, heap, program, class, body, call, next, done)
+        }
+        Frame::Constructor { caller, rest } => {
+            context.env = caller;
+            completed(context, heap, program, rest)
+        }
+        Frame::Initializer {
+            caller,
+            class,
+            at,
+            body,
+            next,
+        } => {
+            context.env = caller;
+            initialized(context, heap, program, class, at, body, next)
+        }
         Frame::Parts { .. } | Frame::Body { .. } | Frame::Labelled { .. } => {
             Ok(Control::Give(value))
         }
@@ -203,6 +229,20 @@ pub fn next(
             context.env = caller;
             tell_on(context, heap, program, told, result)
         }
+        Frame::Constructor { caller, rest } => {
+            context.env = caller;
+            completed(context, heap, program, rest)
+        }
+        Frame::Initializer {
+            caller,
+            class,
+            at,
+            body,
+            next,
+        } => {
+            context.env = caller;
+            initialized(context, heap, program, class, at, body, next)
+        }
         _ => Ok(Control::Next),
     }
 }
@@ -229,6 +269,20 @@ pub fn leave(
         Frame::Telling { caller, told, .. } => {
             context.env = caller;
             tell_on(context, heap, program, told, value)
+        }
+        Frame::Constructor { caller, rest } => {
+            context.env = caller;
+            completed(context, heap, program, rest)
+        }
+        Frame::Initializer {
+            caller,
+            class,
+            at,
+            body,
+            next,
+        } => {
+            context.env = caller;
+            initialized(context, heap, program, class, at, body, next)
         }
         Frame::Try { node } => finish(&node.form, End::Leave(value), &mut context.frames),
         Frame::Finally { node } => finish(&node.form, End::Leave(value), &mut context.frames),
@@ -257,6 +311,14 @@ pub fn throw(
             Ok(Control::Throw(exception))
         }
         Frame::Telling { caller, .. } => {
+            context.env = caller;
+            Ok(Control::Throw(exception))
+        }
+        Frame::Constructor { caller, .. } => {
+            context.env = caller;
+            Ok(Control::Throw(exception))
+        }
+        Frame::Initializer { caller, .. } => {
             context.env = caller;
             Ok(Control::Throw(exception))
         }

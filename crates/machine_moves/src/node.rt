@@ -4,8 +4,9 @@ ghost use Rattle.std.specs.Prelude.{◌≤◌, ◌<◌, ◌+◌, IfOk};
 ghost use Rattle.je_core.specs.View.{view, stmt_view};
 ghost use Rattle.machine_parts.specs.way.Clauses.{RunsToValue, RunsToEnd, Falls};
 
-use je_core::{Expr, Memory, Program, Stmt};
+use je_core::{ClassId, Expr, Memory, Program, Stmt};
 use je_heap::Heap;
+use machine_constructors::build::begin_body;
 use machine_forms::expr::begin_expr;
 use machine_parts::frame::{Context, Control};
 use machine_statements::stmt::begin_stmt;
@@ -49,4 +50,25 @@ pub fn exec(
     context.units -= 1;
     context.begun += 1;
     begin_stmt(context, heap, program, node)
+}
+
+/// Takes the unit of the body of a constructor of a class, and begins it.
+pub fn build(
+    context: &mut Context,
+    heap: &mut Heap,
+    program: &Program,
+    class: ClassId,
+    body: Rc<Stmt>,
+) -> Result<Control, Memory>
+    ensures goes { IfOk result (RunsToEnd program.now context.old heap.old context.new heap.new
+        (λ m. m.build class (stmt_view body.value))) }
+    ensures falls { IfOk result (Falls context.old context.new) }
+    ensures begun { context.new.begun ≤ context.old.begun + 1 }
+{
+    if context.units == 0 {
+        return Ok(Control::Spent);
+    }
+    context.units -= 1;
+    context.begun += 1;
+    begin_body(context, heap, program, class, body)
 }

@@ -7,11 +7,11 @@ ghost use Rattle.je_java.specs.Raised.{class_cast};
 ghost use Rattle.je_java.specs.Steps.{raise, bind, ret};
 ghost use Rattle.je_java.specs.LibraryMembers.{run_library as the_run_library};
 ghost use Rattle.machine_parts.specs.Outermost.{at_end, replied};
-ghost use Rattle.je_java.specs.Meaning.{member_at, run_member, run_method, replied as the_replied, replied_exact, replied_virtual, replied_fresh, built, call_by};
+ghost use Rattle.je_java.specs.Meaning.{member_at, run_member, run_method, build_with, run_constructor, replied as the_replied, replied_exact, replied_virtual, replied_fresh, built, call_by};
 ghost use Rattle.machine_parts.specs.declared.frame.Reply.{Reply as TheReply};
 ghost use Rattle.machine_parts.specs.way.Clauses.{GoesToReply, BeginsBody, Falls};
 
-use crate::node::exec;
+use crate::node::{build, exec};
 use class_members::{dispatched, method_at};
 use je_core::{ClassId, Memory, Method, ObjId, Program, Slots, Stmt, Value};
 use je_heap::Heap;
@@ -36,14 +36,34 @@ fn begin_body(
     this: Value,
     locals: Slots,
 ) -> Result<Control, Memory>
-    ensures goes { IfOk result (BeginsBody program.now context.old heap.now context.new body.value
-        (record { this = this; locals = locals })) }
+    ensures goes { IfOk result (BeginsBody program.now context.old heap.now context.new heap.now
+        (λ m. m.exec (stmt_view body.value)) (record { this = this; locals = locals })) }
     ensures falls { IfOk result (Falls context.old context.new) }
     ensures begun { context.new.begun ≤ context.old.begun + 1 }
 {
     context.frames = Stack::new(context.alloc);
     context.env = Env { this, locals };
     exec(context, program, heap, body)
+}
+
+// The body of a constructor of a class begins, with nothing behind it.
+fn begin_constructor(
+    context: &mut Context,
+    heap: &mut Heap,
+    program: &Program,
+    class: ClassId,
+    body: Rc<Stmt>,
+    this: Value,
+    locals: Slots,
+) -> Result<Control, Memory>
+    ensures goes { IfOk result (BeginsBody program.now context.old heap.old context.new heap.new
+        (λ m. m.build class (stmt_view body.value)) (record { this = this; locals = locals })) }
+    ensures falls { IfOk result (Falls context.old context.new) }
+    ensures begun { context.new.begun ≤ context.old.begun + 1 }
+{
+    context.frames = Stack::new(context.alloc);
+    context.env = Env { this, locals };
+    build(context, heap, program, class, body)
 }
 
 // A member of the library, which has no body: what it comes to ends the call.
@@ -96,6 +116,69 @@ fn start_body(
 {
     let locals = locals_for(method, args)?;
     begin_body(context, heap, program, body, this, locals)
+}
+
+// A constructor with a body on an object: its body begins.
+fn start_building(
+    context: &mut Context,
+    heap: &mut Heap,
+    program: &Program,
+    reply: Reply,
+    class: ClassId,
+    constructor: &Method,
+    body: Rc<Stmt>,
+    this: Value,
+    args: Slots,
+) -> Result<Control, Memory>
+    requires body { Some (stmt_view body.value) ≡ (method_view constructor.now).body }
+    requires end { replied reply (at_end reply) ≡
+        replied reply (default_of constructor.now.returns) }
+    ensures goes { IfOk result (GoesToReply program.now
+        context.old heap.old reply context.new heap.new (λ p m.
+        bind (build_with m class (method_view constructor.now) this args)
+        (λ value. ret (replied reply value)))) }
+    ensures falls { IfOk result (Falls context.old context.new) }
+    ensures begun { context.new.begun ≤ context.old.begun + 1 }
+{
+    let locals = locals_for(constructor, args)?;
+    begin_constructor(context, heap, program, class, body, this, locals)
+}
+
+// A constructor of a number of a class on an object: its body begins; one of the library, which has none, is run.
+fn start_on_object(
+    context: &mut Context,
+    heap: &mut Heap,
+    program: &Program,
+    reply: Reply,
+    class: ClassId,
+    at: usize,
+    constructor: &Method,
+    this: Value,
+    args: Slots,
+) -> Result<Control, Memory>
+    requires end { replied reply (at_end reply) ≡
+        replied reply (default_of constructor.now.returns) }
+    ensures goes { IfOk result (GoesToReply program.now
+        context.old heap.old reply context.new heap.new (λ p m.
+        bind (run_constructor p m (member_at class at) (method_view constructor.now) this args)
+        (λ value. ret (replied reply value)))) }
+    ensures falls { IfOk result (Falls context.old context.new) }
+    ensures begun { context.new.begun ≤ context.old.begun + 1 }
+{
+    match body(constructor)? {
+        Some(body) => start_building(
+            context,
+            heap,
+            program,
+            reply,
+            class,
+            constructor,
+            body,
+            this,
+            args,
+        ),
+        None => end_by_library(context, heap, program, reply, class, at, this, &args),
+    }
 }
 
 // A method of a number of a class on a receiver: its body begins; a member of the library, which has none, is run.
@@ -248,7 +331,7 @@ fn start_constructor(
 {
     *reply = Reply::Built(object);
     let this = Value::Ref(object);
-    start_member(
+    start_on_object(
         context,
         heap,
         program,

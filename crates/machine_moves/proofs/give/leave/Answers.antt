@@ -8,7 +8,8 @@ use Rattle.machine_moves.proofs.give.leave.Goals as goal
 pub returns : goal.returns
 returns c = record {
   goes = λ m k outside. let p = program_view c.args.program.now in ap (λ (run : Run). run (state c.args.context.now c.args.heap.now outside))
-      (leave_passes p m c.args.frame (waits p m k c.args.context.now.frames) c.args.value c.in_default.not-Try c.in_default.not-Finally c.in_default.not-Called c.in_default.not-Telling);
+      (leave_passes p m c.args.frame (waits p m k c.args.context.now.frames) c.args.value c.in_default.not-Try c.in_default.not-Finally c.in_default.not-Called c.in_default.not-Telling c.in_default.not-Constructor
+      c.in_default.not-Initializer);
   short = omega arith;
   begun = refl;
 }
