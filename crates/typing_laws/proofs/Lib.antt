@@ -9,5 +9,7 @@ pub mod Texts
 pub mod Subtypes
 pub mod Assigned
 pub mod Assignments
+pub mod References
+pub mod Elements
 mod Rows
 mod HeadRows

@@ -56,7 +56,7 @@ either P true b h f g = f refl
 either P false b h f g = g h
 
 module _ (heads : List ClassHead) where
-  abbrev erased_base : SourceType → Base
+  abbrev pub erased_base : SourceType → Base
   erased_base t = (erased heads t).base
 
   within-class : (steps c : ℕ) (ts : SourceTypes) (n : ℕ) → erased_within heads steps (of_class c ts n) ≡ record { base = base.Class (class_numbered c); dims = n }

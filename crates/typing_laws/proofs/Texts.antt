@@ -37,7 +37,7 @@ or-true false = refl
 same_type-same : (t : Ty) → same_type t t ≡ true
 same_type-same t = both (eq-eqb t.dims t.dims refl) (same_base-refl t.base)
 
-string-erased : (heads : List ClassHead) → erased heads string_type ≡ string
+pub string-erased : (heads : List ClassHead) → erased heads string_type ≡ string
 unfolding erased
 string-erased heads = refl
 

@@ -1,19 +1,23 @@
 -- What steps of typing give fits where their parts do.
-use Rattle.std.specs.Prelude.{◌≡◌, ◌≤◌, ◌||◌, Bool, true, false, List}
+use Rattle.std.specs.Prelude.{◌≡◌, ◌≤◌, ◌||◌, Bool, true, false, List, is_some}
 use Rattle.je_base.specs.declared.span.Span.{Span}
 use Rattle.je_core.specs.declared.expr.BinOp.{BinOp}
 use Rattle.je_core.specs.declared.expr.UnOp.{UnOp}
 use Rattle.je_core.specs.Core.{CoreProgram, form_of}
 use Rattle.je_fitting.specs.Expressions.{Body, IsPlace}
-use Rattle.je_fitting.specs.Operators.{is_step}
+use Rattle.je_fitting.specs.Operators.{equality, is_step, sort_of}
+use Rattle.je_fitting.specs.Types.{is_variable_type}
+use Rattle.source_types.specs.Erasure.{erased}
 use Rattle.source_types.specs.Heads.{ClassHead}
 use Rattle.source_types.specs.Subtypes.{dims_of}
 use Rattle.je_typing.specs.Assignments.{assignment, stepped, update}
 use Rattle.je_typing.specs.Literals.{literal_of}
-use Rattle.je_typing.specs.Operators.{concatenation, logical, plus, primitive_operation, unary}
+use Rattle.je_typing.specs.Operators.{concatenation, logical, plus, primitive_operation, reference_equality, unary}
 use Rattle.je_core.specs.declared.types.Base.{Base}
-use Rattle.je_typing.specs.Casts.{primitive_cast}
-use Rattle.je_typing.specs.Typed.{TypedNode, is_primitive_base, is_string, is_void}
+use Rattle.je_typing.specs.Arrays.{element, length_of}
+use Rattle.je_typing.specs.Casts.{instance_of, primitive_cast, reference_cast}
+use Rattle.je_scopes.specs.SourceTypes.{SourceType}
+use Rattle.je_typing.specs.Typed.{TypedNode, element_type, is_primitive_base, is_string, is_void}
 use Rattle.je_ast.specs.declared.expr.Literal.{Literal}
 use Rattle.typing_laws.specs.Correspondence.{HasHeads}
 use Rattle.typing_laws.specs.Fitting.{BoundsFit, FitsAs, Gives}
@@ -69,3 +73,32 @@ UpdatesFit = (p : CoreProgram) (body : Body) (heads : List ClassHead) (o : BinOp
 abbrev pub StepsFit : Type 0
 StepsFit = (p : CoreProgram) (body : Body) (heads : List ClassHead) (o : BinOp) (gives_old : Bool) (at operand_span span : Span) (operand : TypedNode) → is_step o ≡ true →
     IsPlace p body (form_of operand.node) → FitsAs p body heads operand → Gives (FitsAs p body heads) (stepped o gives_old at operand_span span operand)
+
+-- ---- references
+
+-- JLS 15.21.3
+abbrev pub ReferenceEqualitiesFit : Type 0
+ReferenceEqualitiesFit = (p : CoreProgram) (body : Body) (heads : List ClassHead) (o : BinOp) (at span : Span) (left right : TypedNode) → BoundsFit heads →
+    sort_of o ≡ equality → FitsAs p body heads left → FitsAs p body heads right → Gives (FitsAs p body heads) (reference_equality heads o at span left right)
+
+-- JLS 5.5, to a type whose class is there
+abbrev pub ReferenceCastsFit : Type 0
+ReferenceCastsFit = (p : CoreProgram) (body : Body) (heads : List ClassHead) (to : SourceType) (type_span span : Span) (operand : TypedNode) → BoundsFit heads →
+    is_variable_type p (erased heads to) ≡ true → FitsAs p body heads operand → Gives (FitsAs p body heads) (reference_cast heads to type_span span operand)
+
+-- JLS 15.20.2
+abbrev pub TypeTestsFit : Type 0
+TypeTestsFit = (p : CoreProgram) (body : Body) (heads : List ClassHead) (to : SourceType) (type_span at span : Span) (operand : TypedNode) → BoundsFit heads →
+    is_variable_type p (erased heads to) ≡ true → FitsAs p body heads operand → Gives (FitsAs p body heads) (instance_of heads to type_span at span operand)
+
+-- ---- arrays
+
+-- JLS 15.13
+abbrev pub ElementsFit : Type 0
+ElementsFit = (p : CoreProgram) (body : Body) (heads : List ClassHead) (array_span index_span span : Span) (array index : TypedNode) → BoundsFit heads → dims_of array.type ≤ 255 →
+    FitsAs p body heads array → FitsAs p body heads index → Gives (FitsAs p body heads) (element heads array_span index_span span array index)
+
+-- JLS 10.7
+abbrev pub LengthsFit : Type 0
+LengthsFit = (p : CoreProgram) (body : Body) (heads : List ClassHead) (at span : Span) (array : TypedNode) → BoundsFit heads → dims_of array.type ≤ 255 →
+    is_some (element_type array.type) ≡ true → FitsAs p body heads array → FitsAs p body heads (length_of at span array.node)

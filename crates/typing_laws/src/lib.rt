@@ -3,7 +3,7 @@
 
 ghost use Rattle.typing_laws.specs.Correspondence.{SubtypesAreErased};
 ghost use Rattle.typing_laws.specs.Passing.{AssignedValuesPass};
-ghost use Rattle.typing_laws.specs.Laws.{AssignmentsFit, ConcatenationsFit, LiteralsFit, LogicalOperationsFit, PlusFits, PrimitiveCastsFit, PrimitiveOperationsFit, StepsFit, UnaryOperationsFit, UpdatesFit};
+ghost use Rattle.typing_laws.specs.Laws.{AssignmentsFit, ConcatenationsFit, ElementsFit, LengthsFit, LiteralsFit, LogicalOperationsFit, PlusFits, PrimitiveCastsFit, PrimitiveOperationsFit, ReferenceCastsFit, ReferenceEqualitiesFit, StepsFit, TypeTestsFit, UnaryOperationsFit, UpdatesFit};
 
 /// A literal fits.
 pub fn literals_fit()
@@ -63,4 +63,29 @@ pub fn updates_fit()
 /// `++` and `--` do so too.
 pub fn steps_fit()
     ensures { StepsFit }
+{}
+
+/// Equality of references fits where its operands do.
+pub fn reference_equalities_fit()
+    ensures { ReferenceEqualitiesFit }
+{}
+
+/// A cast to a reference type fits where its operand does, and the class is there.
+pub fn reference_casts_fit()
+    ensures { ReferenceCastsFit }
+{}
+
+/// `instanceof` does so too.
+pub fn type_tests_fit()
+    ensures { TypeTestsFit }
+{}
+
+/// An element of an array fits where the array and the index do.
+pub fn elements_fit()
+    ensures { ElementsFit }
+{}
+
+/// The length of an array fits where the array does.
+pub fn lengths_fit()
+    ensures { LengthsFit }
 {}
