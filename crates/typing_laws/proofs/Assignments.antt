@@ -209,11 +209,11 @@ module _ (p : CoreProgram) (body : Body) (heads : List ClassHead) where
         by false e = tt
         by true e = behind-place (FitsAs p body heads) operand_span operand (step_node o old at span operand) (step-fits e)
 
-pub assignments_fit : AssignmentsFit
+pub assignments_fit : (p : CoreProgram) (body : Body) (heads : List ClassHead) → AssignmentsFit p body heads
 assignments_fit p body heads at left_span right_span span left right known m n value is l r = assignment-gives p body heads at left_span right_span span left right known m n value is l r
 
-pub updates_fit : UpdatesFit
+pub updates_fit : (p : CoreProgram) (body : Body) (heads : List ClassHead) → UpdatesFit p body heads
 updates_fit p body heads o at left_span span left right bounds is l r = update-gives p body heads o at left_span span left right bounds is l r
 
-pub steps_fit : StepsFit
+pub steps_fit : (p : CoreProgram) (body : Body) (heads : List ClassHead) → StepsFit p body heads
 steps_fit p body heads o old at operand_span span operand step is fit = step-gives p body heads o old at operand_span span operand step is fit

@@ -51,5 +51,5 @@ module _ (p : CoreProgram) (body : Body) (heads : List ClassHead) (b : Base) (ty
       by false e = tt
       by true e = cast-fits e
 
-pub casts_fit : PrimitiveCastsFit
+pub casts_fit : (p : CoreProgram) (body : Body) (heads : List ClassHead) → PrimitiveCastsFit p body heads
 casts_fit p body heads b type_span span t known fit = cast-gives p body heads b type_span span t known fit

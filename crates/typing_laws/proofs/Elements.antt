@@ -97,8 +97,8 @@ module _ (p : CoreProgram) (body : Body) (heads : List ClassHead) where
       by None e k = absurd cc
       by (Some t) e k = record { node = λ texts q. fits.length_of (fit.node texts q) (fit.type ∙ (element-is heads bounds array.type t e few).is); uses = no-uses p body heads; type = sym (erased-plain heads base.Int) }
 
-pub elements_fit : ElementsFit
+pub elements_fit : (p : CoreProgram) (body : Body) (heads : List ClassHead) → ElementsFit p body heads
 elements_fit p body heads array_span index_span span array index bounds few a i = element-gives p body heads array_span index_span span array index bounds few a i
 
-pub lengths_fit : LengthsFit
+pub lengths_fit : (p : CoreProgram) (body : Body) (heads : List ClassHead) → LengthsFit p body heads
 lengths_fit p body heads at span array bounds few some fit = length-fits p body heads at span array bounds few some fit

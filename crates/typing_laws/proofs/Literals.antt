@@ -59,5 +59,5 @@ module _ (p : CoreProgram) (body : Body) (heads : List ClassHead) where
   literal-fits (literal.Bool b) span = value-fits base.Bool (value.Bool b) span span refl
   literal-fits literal.Null span = value-fits base.Null value.Null span span refl
 
-pub literals_fit : LiteralsFit
+pub literals_fit : (p : CoreProgram) (body : Body) (heads : List ClassHead) → LiteralsFit p body heads
 literals_fit p body heads l span = literal-fits p body heads l span

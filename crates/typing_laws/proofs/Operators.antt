@@ -201,5 +201,5 @@ module _ (p : CoreProgram) (body : Body) (heads : List ClassHead) where
         by None e = tt
         by (Some q) e = operation-fits q (operands-taken (sort_of o) left.type right.type q e)
 
-pub operations_fit : PrimitiveOperationsFit
+pub operations_fit : (p : CoreProgram) (body : Body) (heads : List ClassHead) → PrimitiveOperationsFit p body heads
 operations_fit p body heads o at span left right l r = operation p body heads o at span left right l r

@@ -168,11 +168,11 @@ module _ (p : CoreProgram) (body : Body) (heads : List ClassHead) (bounds : Boun
         by false e = tt
         by true e = test-fits at e
 
-pub reference_equalities_fit : ReferenceEqualitiesFit
+pub reference_equalities_fit : (p : CoreProgram) (body : Body) (heads : List ClassHead) → ReferenceEqualitiesFit p body heads
 reference_equalities_fit p body heads o at span left right bounds is l r = equality-gives p body heads bounds o at span left right is l r
 
-pub reference_casts_fit : ReferenceCastsFit
+pub reference_casts_fit : (p : CoreProgram) (body : Body) (heads : List ClassHead) → ReferenceCastsFit p body heads
 reference_casts_fit p body heads to type_span span operand bounds there fit = cast-gives p body heads bounds to type_span span operand there fit
 
-pub type_tests_fit : TypeTestsFit
+pub type_tests_fit : (p : CoreProgram) (body : Body) (heads : List ClassHead) → TypeTestsFit p body heads
 type_tests_fit p body heads to type_span at span operand bounds there fit = test-gives p body heads bounds to type_span span operand there fit at

@@ -85,5 +85,5 @@ module _ (p : CoreProgram) (body : Body) (heads : List ClassHead) (at span : Spa
       by false e = or-fits (joined_texts (spelled left.node) (spelled right.node)) (uses_of left.node ++ uses_of right.node) (uses-together p body heads (uses_of left.node) (uses_of right.node) l.uses r.uses)
           (ap (λ (u : Ty). joins u (ty_of right.node)) l.type ∙ ap (joins (erased heads left.type)) r.type ∙ joins-them heads bounds left.type right.type one e)
 
-pub concatenations_fit : ConcatenationsFit
+pub concatenations_fit : (p : CoreProgram) (body : Body) (heads : List ClassHead) → ConcatenationsFit p body heads
 concatenations_fit p body heads at span left right bounds one l r = concatenation-fits p body heads at span left right bounds l r one

@@ -119,11 +119,11 @@ module _ (p : CoreProgram) (body : Body) (heads : List ClassHead) where
         by false e = tt
         by true e = logical-node-fits is_and e
 
-pub unary_fit : UnaryOperationsFit
+pub unary_fit : (p : CoreProgram) (body : Body) (heads : List ClassHead) → UnaryOperationsFit p body heads
 unary_fit p body heads o at span operand fit = unary-gives p body heads at span operand fit o
 
-pub plus_fits : PlusFits
+pub plus_fits : (p : CoreProgram) (body : Body) (heads : List ClassHead) → PlusFits p body heads
 plus_fits p body heads at span operand fit = plus-gives p body heads at span operand fit
 
-pub logical_fit : LogicalOperationsFit
+pub logical_fit : (p : CoreProgram) (body : Body) (heads : List ClassHead) → LogicalOperationsFit p body heads
 logical_fit p body heads is_and at span left right l r = logical-gives p body heads at span left right l r is_and

@@ -1,5 +1,5 @@
--- When a core program has the classes of headers: above each class stand those that its header names, and the erasure of a type
--- variable is that of its bound (JLS 4.6). Types of a source of no more than 255 dimensions, as all that are written have (JVMS 4.3.2).
+-- When a core program has the classes of headers: above each class stand those that its header names, and the erasure of
+-- a type variable is that of its bound (JLS 4.6). Types of a source have no more than 255 dimensions (JVMS 4.3.2).
 use Rattle.std.specs.Prelude.{◌≡◌, ℕ, ◌≤◌, true, List}
 use Rattle.std.specs.List.{Contains}
 use Rattle.je_core.specs.Core.{CoreProgram}
@@ -25,5 +25,6 @@ pub record HasHeads (program : CoreProgram) (heads : List ClassHead) : Type 0 wh
 
 -- subtypes are erased to subtypes (JLS 4.10)
 abbrev pub SubtypesAreErased : Type 0
-SubtypesAreErased = (program : CoreProgram) (heads : List ClassHead) → HasHeads program heads → (s t : SourceType) → dims_of s ≤ 255 → dims_of t ≤ 255 →
-    is_subtype heads s t ≡ true → is_core_subtype program (erased heads s) (erased heads t) ≡ true
+SubtypesAreErased = (program : CoreProgram) (heads : List ClassHead) → HasHeads program heads → (s t : SourceType) →
+    dims_of s ≤ 255 → dims_of t ≤ 255 → is_subtype heads s t ≡ true →
+    is_core_subtype program (erased heads s) (erased heads t) ≡ true

@@ -1,5 +1,5 @@
--- When an expression of the core program that has a type in the source fits where it stands. The constant strings of a program are known
--- only when all of it is elaborated, so that is said for any, among which those that stand in the node stand once.
+-- When an expression of the core program that has a type in the source fits where it stands. The constant strings of a
+-- program are known only when all of it is elaborated, so that is said for any, among which those of the node stand once.
 use Rattle.std.specs.Prelude.{◌≡◌, Bool, true, ℕ, List, count_by, nat_eq}
 use Rattle.std.specs.Str.{bytes_eq}
 use Rattle.je_core.specs.Core.{CoreForm, CoreProgram, ty_of}
@@ -21,9 +21,11 @@ stands_once texts _ = true
 abbrev pub with_texts : CoreProgram → List (List ℕ) → CoreProgram
 with_texts program texts = record program { texts = texts }
 
--- The node fits, the library fields that it names as a constant are there, and its type is the erasure of its type in the source.
+-- The node fits, the library fields that it names as a constant are there, and its type is the erasure of its type in
+-- the source.
 pub record FitsAs (program : CoreProgram) (body : Body) (heads : List ClassHead) (t : TypedNode) : Type 0 where
-  pub node : (texts : List (List ℕ)) → every (stands_once texts) t.node ≡ true → Fits (with_texts program texts) body t.node
+  pub node : (texts : List (List ℕ)) → every (stands_once texts) t.node ≡ true →
+      Fits (with_texts program texts) body t.node
   pub uses : are_there program (uses_of t.node)
   pub type : ty_of t.node ≡ erased heads t.type
 

@@ -22,83 +22,93 @@ use Rattle.je_ast.specs.declared.expr.Literal.{Literal}
 use Rattle.typing_laws.specs.Correspondence.{HasHeads}
 use Rattle.typing_laws.specs.Fitting.{BoundsFit, FitsAs, Gives}
 
--- JLS 3.10
-abbrev pub LiteralsFit : Type 0
-LiteralsFit = (p : CoreProgram) (body : Body) (heads : List ClassHead) (l : Literal) (span : Span) → Gives (FitsAs p body heads) (literal_of l span)
+-- of nodes of a program in a body, over the headers of its classes
+module _ (p : CoreProgram) (body : Body) (heads : List ClassHead) where
+  abbrev Fit : TypedNode → Type 0
+  Fit t = FitsAs p body heads t
 
--- JLS 15.17 to 15.22, on numbers and booleans
-abbrev pub PrimitiveOperationsFit : Type 0
-PrimitiveOperationsFit = (p : CoreProgram) (body : Body) (heads : List ClassHead) (o : BinOp) (at span : Span) (left right : TypedNode) →
-    FitsAs p body heads left → FitsAs p body heads right → Gives (FitsAs p body heads) (primitive_operation o at span left right)
+  -- JLS 3.10
+  abbrev pub LiteralsFit : Type 0
+  LiteralsFit = (l : Literal) (span : Span) → Gives Fit (literal_of l span)
 
--- JLS 15.15.3 to 15.15.6
-abbrev pub UnaryOperationsFit : Type 0
-UnaryOperationsFit = (p : CoreProgram) (body : Body) (heads : List ClassHead) (o : UnOp) (at span : Span) (operand : TypedNode) →
-    FitsAs p body heads operand → Gives (FitsAs p body heads) (unary o at span operand)
+  -- JLS 15.17 to 15.22, on numbers and booleans
+  abbrev pub PrimitiveOperationsFit : Type 0
+  PrimitiveOperationsFit = (o : BinOp) (at span : Span) (left right : TypedNode) → Fit left → Fit right →
+      Gives Fit (primitive_operation o at span left right)
 
-abbrev pub PlusFits : Type 0
-PlusFits = (p : CoreProgram) (body : Body) (heads : List ClassHead) (at span : Span) (operand : TypedNode) →
-    FitsAs p body heads operand → Gives (FitsAs p body heads) (plus at span operand)
+  -- JLS 15.15.3 to 15.15.6
+  abbrev pub UnaryOperationsFit : Type 0
+  UnaryOperationsFit = (o : UnOp) (at span : Span) (operand : TypedNode) → Fit operand →
+      Gives Fit (unary o at span operand)
 
--- JLS 15.23, 15.24
-abbrev pub LogicalOperationsFit : Type 0
-LogicalOperationsFit = (p : CoreProgram) (body : Body) (heads : List ClassHead) (is_and : Bool) (at span : Span) (left right : TypedNode) →
-    FitsAs p body heads left → FitsAs p body heads right → Gives (FitsAs p body heads) (logical is_and at span left right)
+  abbrev pub PlusFits : Type 0
+  PlusFits = (at span : Span) (operand : TypedNode) → Fit operand → Gives Fit (plus at span operand)
 
--- JLS 5.5, to a primitive type
-abbrev pub PrimitiveCastsFit : Type 0
-PrimitiveCastsFit = (p : CoreProgram) (body : Body) (heads : List ClassHead) (b : Base) (type_span span : Span) (operand : TypedNode) → is_primitive_base b ≡ true →
-    FitsAs p body heads operand → Gives (FitsAs p body heads) (primitive_cast b type_span span operand)
+  -- JLS 15.23, 15.24
+  abbrev pub LogicalOperationsFit : Type 0
+  LogicalOperationsFit = (is_and : Bool) (at span : Span) (left right : TypedNode) → Fit left → Fit right →
+      Gives Fit (logical is_and at span left right)
 
--- JLS 15.18.1, where one operand is a String
-abbrev pub ConcatenationsFit : Type 0
-ConcatenationsFit = (p : CoreProgram) (body : Body) (heads : List ClassHead) (at span : Span) (left right : TypedNode) → BoundsFit heads →
-    (is_string left.type || is_string right.type) ≡ true → FitsAs p body heads left → FitsAs p body heads right →
-    Gives (FitsAs p body heads) (concatenation at span left right)
+  -- JLS 5.5, to a primitive type
+  abbrev pub PrimitiveCastsFit : Type 0
+  PrimitiveCastsFit = (b : Base) (type_span span : Span) (operand : TypedNode) → is_primitive_base b ≡ true →
+      Fit operand → Gives Fit (primitive_cast b type_span span operand)
 
--- ---- assignments (JLS 15.26), where the variable may be assigned where it stands
+  -- JLS 15.18.1, where one operand is a String
+  abbrev pub ConcatenationsFit : Type 0
+  ConcatenationsFit = (at span : Span) (left right : TypedNode) → BoundsFit heads →
+      (is_string left.type || is_string right.type) ≡ true → Fit left → Fit right →
+      Gives Fit (concatenation at span left right)
 
--- JLS 15.26.1
-abbrev pub AssignmentsFit : Type 0
-AssignmentsFit = (p : CoreProgram) (body : Body) (heads : List ClassHead) (at left_span right_span span : Span) (left right : TypedNode) → HasHeads p heads →
-    dims_of left.type ≤ 255 → dims_of right.type ≤ 255 → is_void left.type ≡ false → IsPlace p body (form_of left.node) →
-    FitsAs p body heads left → FitsAs p body heads right → Gives (FitsAs p body heads) (assignment heads at left_span right_span span left right)
+  -- ---- assignments (JLS 15.26), where the variable may be assigned where it stands
 
--- JLS 15.26.2
-abbrev pub UpdatesFit : Type 0
-UpdatesFit = (p : CoreProgram) (body : Body) (heads : List ClassHead) (o : BinOp) (at left_span span : Span) (left right : TypedNode) → BoundsFit heads →
-    IsPlace p body (form_of left.node) → FitsAs p body heads left → FitsAs p body heads right → Gives (FitsAs p body heads) (update o at left_span span left right)
+  -- JLS 15.26.1
+  abbrev pub AssignmentsFit : Type 0
+  AssignmentsFit = (at left_span right_span span : Span) (left right : TypedNode) → HasHeads p heads →
+      dims_of left.type ≤ 255 → dims_of right.type ≤ 255 → is_void left.type ≡ false →
+      IsPlace p body (form_of left.node) → Fit left → Fit right →
+      Gives Fit (assignment heads at left_span right_span span left right)
 
--- JLS 15.14, 15.15.1, 15.15.2
-abbrev pub StepsFit : Type 0
-StepsFit = (p : CoreProgram) (body : Body) (heads : List ClassHead) (o : BinOp) (gives_old : Bool) (at operand_span span : Span) (operand : TypedNode) → is_step o ≡ true →
-    IsPlace p body (form_of operand.node) → FitsAs p body heads operand → Gives (FitsAs p body heads) (stepped o gives_old at operand_span span operand)
+  -- JLS 15.26.2
+  abbrev pub UpdatesFit : Type 0
+  UpdatesFit = (o : BinOp) (at left_span span : Span) (left right : TypedNode) → BoundsFit heads →
+      IsPlace p body (form_of left.node) → Fit left → Fit right →
+      Gives Fit (update o at left_span span left right)
 
--- ---- references
+  -- JLS 15.14, 15.15.1, 15.15.2
+  abbrev pub StepsFit : Type 0
+  StepsFit = (o : BinOp) (gives_old : Bool) (at operand_span span : Span) (operand : TypedNode) → is_step o ≡ true →
+      IsPlace p body (form_of operand.node) → Fit operand →
+      Gives Fit (stepped o gives_old at operand_span span operand)
 
--- JLS 15.21.3
-abbrev pub ReferenceEqualitiesFit : Type 0
-ReferenceEqualitiesFit = (p : CoreProgram) (body : Body) (heads : List ClassHead) (o : BinOp) (at span : Span) (left right : TypedNode) → BoundsFit heads →
-    sort_of o ≡ equality → FitsAs p body heads left → FitsAs p body heads right → Gives (FitsAs p body heads) (reference_equality heads o at span left right)
+  -- ---- references
 
--- JLS 5.5, to a type whose class is there
-abbrev pub ReferenceCastsFit : Type 0
-ReferenceCastsFit = (p : CoreProgram) (body : Body) (heads : List ClassHead) (to : SourceType) (type_span span : Span) (operand : TypedNode) → BoundsFit heads →
-    is_variable_type p (erased heads to) ≡ true → FitsAs p body heads operand → Gives (FitsAs p body heads) (reference_cast heads to type_span span operand)
+  -- JLS 15.21.3
+  abbrev pub ReferenceEqualitiesFit : Type 0
+  ReferenceEqualitiesFit = (o : BinOp) (at span : Span) (left right : TypedNode) → BoundsFit heads →
+      sort_of o ≡ equality → Fit left → Fit right → Gives Fit (reference_equality heads o at span left right)
 
--- JLS 15.20.2
-abbrev pub TypeTestsFit : Type 0
-TypeTestsFit = (p : CoreProgram) (body : Body) (heads : List ClassHead) (to : SourceType) (type_span at span : Span) (operand : TypedNode) → BoundsFit heads →
-    is_variable_type p (erased heads to) ≡ true → FitsAs p body heads operand → Gives (FitsAs p body heads) (instance_of heads to type_span at span operand)
+  -- JLS 5.5, to a type whose class is there
+  abbrev pub ReferenceCastsFit : Type 0
+  ReferenceCastsFit = (to : SourceType) (type_span span : Span) (operand : TypedNode) → BoundsFit heads →
+      is_variable_type p (erased heads to) ≡ true → Fit operand →
+      Gives Fit (reference_cast heads to type_span span operand)
 
--- ---- arrays
+  -- JLS 15.20.2
+  abbrev pub TypeTestsFit : Type 0
+  TypeTestsFit = (to : SourceType) (type_span at span : Span) (operand : TypedNode) → BoundsFit heads →
+      is_variable_type p (erased heads to) ≡ true → Fit operand →
+      Gives Fit (instance_of heads to type_span at span operand)
 
--- JLS 15.13
-abbrev pub ElementsFit : Type 0
-ElementsFit = (p : CoreProgram) (body : Body) (heads : List ClassHead) (array_span index_span span : Span) (array index : TypedNode) → BoundsFit heads → dims_of array.type ≤ 255 →
-    FitsAs p body heads array → FitsAs p body heads index → Gives (FitsAs p body heads) (element heads array_span index_span span array index)
+  -- ---- arrays
 
--- JLS 10.7
-abbrev pub LengthsFit : Type 0
-LengthsFit = (p : CoreProgram) (body : Body) (heads : List ClassHead) (at span : Span) (array : TypedNode) → BoundsFit heads → dims_of array.type ≤ 255 →
-    is_some (element_type array.type) ≡ true → FitsAs p body heads array → FitsAs p body heads (length_of at span array.node)
+  -- JLS 15.13
+  abbrev pub ElementsFit : Type 0
+  ElementsFit = (array_span index_span span : Span) (array index : TypedNode) → BoundsFit heads →
+      dims_of array.type ≤ 255 → Fit array → Fit index →
+      Gives Fit (element heads array_span index_span span array index)
+
+  -- JLS 10.7
+  abbrev pub LengthsFit : Type 0
+  LengthsFit = (at span : Span) (array : TypedNode) → BoundsFit heads → dims_of array.type ≤ 255 →
+      is_some (element_type array.type) ≡ true → Fit array → Fit (length_of at span array.node)

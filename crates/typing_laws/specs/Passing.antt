@@ -14,11 +14,13 @@ use Rattle.je_typing.specs.Typed.{TypedNode}
 use Rattle.typing_laws.specs.Correspondence.{HasHeads}
 use Rattle.typing_laws.specs.Fitting.{FitsAs, Gives, stands_once, with_texts}
 
-pub record PassesAs (program : CoreProgram) (body : Body) (heads : List ClassHead) (to : SourceType) (n : Core) : Type 0 where
+pub record PassesAs (program : CoreProgram) (body : Body) (heads : List ClassHead) (to : SourceType) (n : Core)
+    : Type 0 where
   pub node : (texts : List (List ℕ)) → every (stands_once texts) n ≡ true → Fits (with_texts program texts) body n
   pub agree : (texts : List (List ℕ)) → agrees (with_texts program texts) (ty_of n) (erased heads to) ≡ true
 
 -- JLS 5.2
 abbrev pub AssignedValuesPass : Type 0
-AssignedValuesPass = (p : CoreProgram) (body : Body) (heads : List ClassHead) (to : SourceType) (span : Span) (from : TypedNode) → HasHeads p heads →
-    dims_of from.type ≤ 255 → dims_of to ≤ 255 → FitsAs p body heads from → Gives (PassesAs p body heads to) (assigned heads to span from)
+AssignedValuesPass = (p : CoreProgram) (body : Body) (heads : List ClassHead) (to : SourceType) (span : Span)
+    (from : TypedNode) → HasHeads p heads → dims_of from.type ≤ 255 → dims_of to ≤ 255 → FitsAs p body heads from →
+    Gives (PassesAs p body heads to) (assigned heads to span from)

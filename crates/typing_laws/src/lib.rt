@@ -1,43 +1,56 @@
-//! What steps of typing give fits where their parts do (`specs/Laws.antt`): `Fits` of `je_fitting`, of nodes with their source types.
+//! What steps of typing give fits where their parts do (`specs/Laws.antt`): `Fits` of `je_fitting`, of nodes with their
+//! source types.
 #![tactic(auto)]
 
+ghost use Rattle.std.specs.Prelude.{List};
 ghost use Rattle.typing_laws.specs.Correspondence.{SubtypesAreErased};
 ghost use Rattle.typing_laws.specs.Passing.{AssignedValuesPass};
-ghost use Rattle.typing_laws.specs.Laws.{AssignmentsFit, ConcatenationsFit, ElementsFit, LengthsFit, LiteralsFit, LogicalOperationsFit, PlusFits, PrimitiveCastsFit, PrimitiveOperationsFit, ReferenceCastsFit, ReferenceEqualitiesFit, StepsFit, TypeTestsFit, UnaryOperationsFit, UpdatesFit};
+ghost use Rattle.je_core.specs.Core.{CoreProgram};
+ghost use Rattle.je_fitting.specs.Expressions.{Body};
+ghost use Rattle.source_types.specs.Heads.{ClassHead};
+ghost use Rattle.typing_laws.specs.Laws.{AssignmentsFit, ConcatenationsFit, ElementsFit, LengthsFit, LiteralsFit};
+ghost use Rattle.typing_laws.specs.Laws.{LogicalOperationsFit, PlusFits, PrimitiveCastsFit, PrimitiveOperationsFit};
+ghost use Rattle.typing_laws.specs.Laws.{ReferenceCastsFit};
+ghost use Rattle.typing_laws.specs.Laws.{ReferenceEqualitiesFit, StepsFit, TypeTestsFit, UnaryOperationsFit, UpdatesFit};
 
 /// A literal fits.
 pub fn literals_fit()
-    ensures { LiteralsFit }
+    ensures { (p : CoreProgram) (body : Body) (heads : List ClassHead) → LiteralsFit p body heads }
 {}
 
 /// A binary operator on numbers or booleans fits where its operands do.
 pub fn primitive_operations_fit()
-    ensures { PrimitiveOperationsFit }
+    ensures { (p : CoreProgram) (body : Body) (heads : List ClassHead) →
+        PrimitiveOperationsFit p body heads }
 {}
 
 /// Unary minus, `~` and `!` fit where their operand does.
 pub fn unary_operations_fit()
-    ensures { UnaryOperationsFit }
+    ensures { (p : CoreProgram) (body : Body) (heads : List ClassHead) →
+        UnaryOperationsFit p body heads }
 {}
 
 /// Unary plus fits where its operand does.
 pub fn plus_fits()
-    ensures { PlusFits }
+    ensures { (p : CoreProgram) (body : Body) (heads : List ClassHead) → PlusFits p body heads }
 {}
 
 /// `&&` and `||` fit where their operands do.
 pub fn logical_operations_fit()
-    ensures { LogicalOperationsFit }
+    ensures { (p : CoreProgram) (body : Body) (heads : List ClassHead) →
+        LogicalOperationsFit p body heads }
 {}
 
 /// A cast to a primitive type fits where its operand does.
 pub fn primitive_casts_fit()
-    ensures { PrimitiveCastsFit }
+    ensures { (p : CoreProgram) (body : Body) (heads : List ClassHead) →
+        PrimitiveCastsFit p body heads }
 {}
 
 /// String concatenation fits where its operands do.
 pub fn concatenations_fit()
-    ensures { ConcatenationsFit }
+    ensures { (p : CoreProgram) (body : Body) (heads : List ClassHead) →
+        ConcatenationsFit p body heads }
 {}
 
 /// A subtype in a source is erased to a subtype in the core program that has the classes of its headers.
@@ -52,40 +65,43 @@ pub fn assigned_values_pass()
 
 /// An assignment fits where its sides do, and the variable may be assigned where it stands.
 pub fn assignments_fit()
-    ensures { AssignmentsFit }
+    ensures { (p : CoreProgram) (body : Body) (heads : List ClassHead) →
+        AssignmentsFit p body heads }
 {}
 
 /// A compound assignment does so too.
 pub fn updates_fit()
-    ensures { UpdatesFit }
+    ensures { (p : CoreProgram) (body : Body) (heads : List ClassHead) → UpdatesFit p body heads }
 {}
 
 /// `++` and `--` do so too.
 pub fn steps_fit()
-    ensures { StepsFit }
+    ensures { (p : CoreProgram) (body : Body) (heads : List ClassHead) → StepsFit p body heads }
 {}
 
 /// Equality of references fits where its operands do.
 pub fn reference_equalities_fit()
-    ensures { ReferenceEqualitiesFit }
+    ensures { (p : CoreProgram) (body : Body) (heads : List ClassHead) →
+        ReferenceEqualitiesFit p body heads }
 {}
 
 /// A cast to a reference type fits where its operand does, and the class is there.
 pub fn reference_casts_fit()
-    ensures { ReferenceCastsFit }
+    ensures { (p : CoreProgram) (body : Body) (heads : List ClassHead) →
+        ReferenceCastsFit p body heads }
 {}
 
 /// `instanceof` does so too.
 pub fn type_tests_fit()
-    ensures { TypeTestsFit }
+    ensures { (p : CoreProgram) (body : Body) (heads : List ClassHead) → TypeTestsFit p body heads }
 {}
 
 /// An element of an array fits where the array and the index do.
 pub fn elements_fit()
-    ensures { ElementsFit }
+    ensures { (p : CoreProgram) (body : Body) (heads : List ClassHead) → ElementsFit p body heads }
 {}
 
 /// The length of an array fits where the array does.
 pub fn lengths_fit()
-    ensures { LengthsFit }
+    ensures { (p : CoreProgram) (body : Body) (heads : List ClassHead) → LengthsFit p body heads }
 {}
