@@ -1,0 +1,3 @@
+pub mod LocalClasses
+pub mod SimpleNames
+pub mod FullNames

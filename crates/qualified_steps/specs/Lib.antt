@@ -1,0 +1,2 @@
+pub mod Qualifiers
+pub mod way
