@@ -1,7 +1,7 @@
 //! The steps of typing the making of arrays: by their lengths, and by their elements.
 //!
-//! `Ok` comes only where the step of `je_typing` gives, with that node and type; `Err` with a fault only where the step is
-//! faulty with it; else memory was wanting.
+//! `Ok` comes only where the step of `je_typing` gives, with that node and type; `Err` with a fault only where the step
+//! is faulty with it; else memory was wanting.
 #![tactic(auto)]
 
 mod making;

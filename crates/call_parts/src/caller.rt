@@ -6,8 +6,8 @@ use method_candidates::MethodTable;
 use name_sites::Sites;
 use source_subtypes::ClassHeads;
 
-/// What a call in a class is judged by: where all classes are written, their headers, what they declare, and the methods
-/// that each of them has.
+/// What a call in a class is judged by: where all classes are written, their headers, what they declare, and the
+/// methods that each of them has.
 #[derive(Clone, Copy)]
 pub struct Caller<'a> {
     pub class: ClassId,

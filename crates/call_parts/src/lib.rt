@@ -1,8 +1,8 @@
-//! What calls and creations are made of (JLS 15.9, 15.12): the candidate that arguments choose, the arguments, each converted
-//! to the type of its parameter, and the nodes.
+//! What calls and creations are made of (JLS 15.9, 15.12): the candidate that arguments choose, the arguments, each
+//! converted to the type of its parameter, and the nodes.
 //!
-//! A `Caller` is what a call in a class is judged by. Each function is the definition of its name in `call_typing`; `Err`
-//! with a fault comes only where the step is faulty with it, else memory was wanting.
+//! A `Caller` is what a call in a class is judged by. Each function is the definition of its name in `call_typing`;
+//! `Err` with a fault comes only where the step is faulty with it, else memory was wanting.
 #![tactic(auto)]
 
 mod arguments;
