@@ -58,8 +58,8 @@ methods-length : {members : Members} {heads : List Head} {made : List CoreMethod
 methods-length MethodsTyped.none = refl
 methods-length (MethodsTyped.more p ps) = ap suc (methods-length ps)
 
-constructor-typed : {members : Members} (new : NameId) → ConstructorTyped members (default_constructor new)
-constructor-typed new = record { block = _; has_body = refl; after = _; fits = StmtTyped.block StmtsTyped.end }
+constructor-typed : (new : NameId) → ConstructorTyped (default_constructor new)
+constructor-typed new = record { has_body = refl }
 
 given-any : {A : Type 0} (o : Option A) → Gives (λ a. Unit {0}) o
 given-any None = nothing
@@ -135,5 +135,7 @@ program-typed names all_names one fits e = given typed e
       method = λ number head e. let found = method-found fs number head e in (found.0, slice_get-front methods _ number found.1, found.2);
       own_method = λ number head k e s m. dispatch-found one.name (map int_field (fields_of one.members)) new fs fits.methods number head k e s (at-front (default_constructor new ∷ []) fs number head k e m);
       starts = λ class. no-initializers one.name (map int_field (fields_of one.members)) methods new class.0;
+      instance_starts = refl;
+      above = refl;
       constructor = (default_constructor new, rw (methods-length fs) (slice_get-seam methods [] (default_constructor new)), constructor-typed new);
     })

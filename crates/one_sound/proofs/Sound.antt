@@ -8,14 +8,14 @@ use Rattle.je_base.specs.declared.span.NameId.{NameId}
 use Rattle.je_core.specs.declared.value.Value.{Value}
 use Rattle.je_core.specs.declared.value.Value.TheVariants.{Int, Null, Ref}
 use Rattle.je_java.specs.Steps.{Computation, constant}
-use Rattle.je_java.specs.Meaning.{Meanings, adding, with_values, run_member, run_virtual, run_exact, run_new, apply, member_at, has_no_body, start_call, eval_form, block, exec_form, meanings, java}
-use Rattle.one_program.specs.Elaboration.{one_class}
+use Rattle.je_java.specs.Meaning.{Meanings, adding, with_values, run_member, run_constructor, run_virtual, run_exact, run_new, apply, member_at, has_no_body, start_call, eval_form, block, exec_form, build_form, meanings, java}
+use Rattle.one_program.specs.Elaboration.{one_class, block as empty_body}
 use Rattle.one_program.specs.declared.scope.Sort.{Sort}
 use Rattle.one_program.specs.declared.scope.Sort.TheVariants.{Int as int, Object as object}
 use Rattle.one_program.specs.Scope.{Members}
 use Rattle.je_classes.specs.Members.{Member}
 use Rattle.one_sound.proofs.Dispatching.{types-same, method_is}
-use Rattle.one_sound.proofs.Safe.{Safe, Any, safe-ret, safe-bind, safe-seq, safe-yields, safe-need, safe-spent, safe-leave, safe-tick, safe-deref, safe-get_receiving_class, safe-run_method, safe-run_member, safe-start_if}
+use Rattle.one_sound.proofs.Safe.{Safe, Any, safe-ret, safe-bind, safe-seq, safe-yields, safe-need, safe-spent, safe-leave, safe-tick, safe-deref, safe-get_receiving_class, safe-framed, safe-run_method, safe-run_member, safe-start_if}
 use Rattle.one_sound.proofs.Values.{IsInt, Ints, Ints-push, Holds, an_int, an_object, Holds-later, type_at_object}
 use Rattle.one_sound.proofs.Typing.{Context, ExprTyped, FormTyped, AllTyped, StmtTyped, StmtsTyped, MethodTyped, ConstructorTyped, ProgramTyped}
 use Rattle.one_sound.proofs.Kept.{invariant, Keeps, keeps-this, keeps-get_local, keeps-put_local, keeps-binary, keeps-read_field, keeps-write_field, keeps-initialize, keeps-make, own-begins}
@@ -26,6 +26,8 @@ pub record KeepsAll (members : Members) (m : Meanings) : Type 0 where
       Keeps (length members.fields) t c d (Holds sort) (m.eval e)
   pub exec : {c d : Context} {s : CoreStmt} → StmtTyped members c d s → (t : ℕ) →
       Keeps (length members.fields) t c d Any (m.exec s)
+  pub build : {c : Context} → c.is_static ≡ false → (t : ℕ) →
+      Keeps (length members.fields) t c c Any (m.build one_class (empty_body [] []))
 
 -- one more int
 keeps-adding : {fields u n : ℕ} {c : Context} {done : List Value} {value : Value} (go : List Value → Computation Value) →
@@ -71,14 +73,14 @@ module _ {members : Members} {m : Meanings} (g : KeepsAll members m) where
       (λ u value h. h)
       (λ u l. rw f.returns an_int))
 
-  keeps-constructor : {c : Context} {t : ℕ} (program : CoreProgram) (member : Member) (method : CoreMethod) (this : Value) → ConstructorTyped members method →
-      Holds object t this →
-      Keeps (length members.fields) t c c Any (run_member program m member method this [])
-  keeps-constructor {t = t} program member method this f r =
-      safe-run_member program m member method this [] f.has_body (safe-run_method m method this [] f.has_body (own-begins method this [] [] (omega arith) (record { length_is = refl; all = All-nil IsInt }) (λ e. r))
-      (g.exec f.fits t)
+  keeps-constructor : {c : Context} {t : ℕ} (program : CoreProgram) (member : Member) (method : CoreMethod) (this : Value) → ConstructorTyped method →
+      Holds object t this → member.class ≡ one_class →
+      Keeps (length members.fields) t c c Any (run_constructor program m member method this [])
+  keeps-constructor {t = t} program member method this f r e =
+      rw (ap is_none f.has_body, e) (safe-need _ f.has_body (safe-framed _ _ (own-begins method this [] [] (omega arith) (record { length_is = refl; all = All-nil IsInt }) (λ e. r))
+      (g.build refl t)
       (λ u value h. record {})
-      (λ u l. record {}))
+      (λ u l. record {})))
 
 module _ {members : Members} {program : CoreProgram} (p : ProgramTyped members program) {m : Meanings} (g : KeepsAll members m) where
   keeps-run_exact : {c : Context} {t : ℕ} {x : NameId} {arity : ℕ} (number : ℕ) (given : List Value) →
@@ -108,7 +110,7 @@ module _ {members : Members} {program : CoreProgram} (p : ProgramTyped members p
   keeps-run_new =
       let found = p.constructor in
       rw (ap has_no_body found.1 ∙ ap is_none found.2.has_body) (safe-bind (keeps-make program p.fresh p.are_ints) λ u l o h.
-      safe-need _ found.1 (safe-yields (Ref o) (keeps-constructor g program (member_at one_class (length members.methods)) found.0 (Ref o) found.2 h) λ v k. Holds-later k h))
+      safe-need _ found.1 (safe-yields (Ref o) (keeps-constructor g program (member_at one_class (length members.methods)) found.0 (Ref o) found.2 h refl) λ v k. Holds-later k h))
 
   keeps-form : {c d : Context} {sort : Sort} {form : CoreForm} (ty : Ty) → FormTyped members c d sort form → (t : ℕ) →
       Keeps (length members.fields) t c d (Holds sort) (eval_form program m ty form)
@@ -144,14 +146,21 @@ module _ {members : Members} {program : CoreProgram} (p : ProgramTyped members p
   keeps-stmt (StmtTyped.returns f) t = safe-bind (g.eval f t) λ u l a r. safe-leave a r
   keeps-stmt (StmtTyped.block fs) t = keeps-block g fs t
 
+  -- no class is above the one, and it has no initializers
+  pub keeps-build : {c : Context} → c.is_static ≡ false → (t : ℕ) →
+      Keeps (length members.fields) t c c Any (build_form program m one_class (stmt_form_of (empty_body [] [])))
+  keeps-build e t = rw (p.above) (safe-seq {P = Any} (safe-ret Null (record {})) λ u l. safe-bind (keeps-this e) λ v k this h.
+      rw (p.instance_starts) (safe-seq {P = Any} (safe-ret tt (record {})) λ w j. safe-ret tt (record {})))
+
 -- however deep nodes nest
 pub meanings_keep : {members : Members} {program : CoreProgram} → ProgramTyped members program → (n : ℕ) →
     KeepsAll members (meanings program n)
 unfolding meanings
-meanings_keep p zero = record { eval = λ f t. safe-spent; exec = λ f t. safe-spent }
+meanings_keep p zero = record { eval = λ f t. safe-spent; exec = λ f t. safe-spent; build = λ e t. safe-spent }
 meanings_keep p (suc n) = record {
   eval = λ f t. safe-seq {P = Any} safe-tick λ u l. safe-seq {P = Any} (safe-start_if _ _ p.starts _) λ v k. keeps-expr p (meanings_keep p n) f v;
   exec = λ f t. safe-seq safe-tick λ u l. keeps-stmt p (meanings_keep p n) f u;
+  build = λ e t. safe-seq safe-tick λ u l. keeps-build p (meanings_keep p n) e u;
 }
 
 -- evaluation keeps what holds
@@ -161,4 +170,5 @@ unfolding java
 java_keeps p = record {
   eval = λ f t. record { run = λ go exits on out s fits. ((meanings_keep p s.public.units).eval f t).run go exits on out s fits };
   exec = λ f t. record { run = λ go exits on out s fits. ((meanings_keep p s.public.units).exec f t).run go exits on out s fits };
+  build = λ e t. record { run = λ go exits on out s fits. ((meanings_keep p s.public.units).build e t).run go exits on out s fits };
 }

@@ -1,5 +1,5 @@
 -- Which nodes of the core program of a One are well typed, at a place of a method.
-use Rattle.std.proofs.Common.{◌≡◌, ℕ, ◌<◌, ◌≤◌, List, [], ◌∷◌, ◌++◌, length, map, Some}
+use Rattle.std.proofs.Common.{◌≡◌, ℕ, ◌<◌, ◌≤◌, List, [], ◌∷◌, ◌++◌, length, map, Some, None}
 use Rattle.std.specs.Prelude.{ℤ, Bool, true, false, slice_get}
 use Rattle.je_base.specs.declared.span.NameId.{NameId}
 use Rattle.je_base.specs.declared.span.Span.{Span}
@@ -15,9 +15,11 @@ use Rattle.je_classes.specs.Hierarchy.{class_at}
 use Rattle.je_classes.specs.Slots.{fresh_slots, field_slot}
 use Rattle.je_classes.specs.Dispatch.{dispatched}
 use Rattle.je_java.specs.Classes.{method_at}
+use Rattle.je_java.specs.Constructors.{instance_initializers}
+use Rattle.je_java.specs.Subclasses.{superclass_of}
 use Rattle.je_java.specs.Meaning.{member_at, static_initializers}
 use Rattle.one_program.specs.Conditions.{is_operator}
-use Rattle.one_program.specs.Elaboration.{one_class, int_type, flags_of}
+use Rattle.one_program.specs.Elaboration.{one_class, int_type, flags_of, block as empty_body}
 use Rattle.one_program.specs.declared.scope.Head.{Head}
 use Rattle.one_program.specs.declared.scope.Sort.{Sort}
 use Rattle.one_program.specs.declared.scope.Sort.TheVariants.{Int as int, Object as object}
@@ -104,12 +106,9 @@ pub record MethodTyped (members : Members) (head : Head) (method : CoreMethod) :
   pub after : Context
   pub fits : StmtTyped members (begins head.is_static params method) after block
 
--- the constructor
-pub record ConstructorTyped (members : Members) (method : CoreMethod) : Type 0 where
-  pub block : CoreStmt
-  pub has_body : method.body ≡ Some block
-  pub after : Context
-  pub fits : StmtTyped members (begins false [] method) after block
+-- the constructor, whose body is an empty block
+pub record ConstructorTyped (method : CoreMethod) : Type 0 where
+  pub has_body : method.body ≡ Some (empty_body [] [])
 
 -- what evaluation needs of the core program of a One with these members
 pub record ProgramTyped (members : Members) (program : CoreProgram) : Type 0 where
@@ -124,4 +123,6 @@ pub record ProgramTyped (members : Members) (program : CoreProgram) : Type 0 whe
       method_at program one_class number ≡ Some method → dispatched program one_class (member_at one_class number) ≡ Some (member_at one_class number)
   -- no class has initializers
   pub starts : (class : ClassId) → static_initializers (class_at program class) ≡ []
-  pub constructor : (method : CoreMethod) × (method_at program one_class (length members.methods) ≡ Some method) × ConstructorTyped members method
+  pub instance_starts : instance_initializers (class_at program one_class) 0 ≡ []
+  pub above : superclass_of program one_class ≡ None
+  pub constructor : (method : CoreMethod) × (method_at program one_class (length members.methods) ≡ Some method) × ConstructorTyped method
