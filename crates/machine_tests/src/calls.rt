@@ -60,7 +60,7 @@ pub fn run_in(
     Ok((Some(Next::More), units))
 }
 
-fn gave(value: i32) -> Option<Next> {
+pub fn gave(value: i32) -> Option<Next> {
     Some(Next::Done(Some(Value::Int(value))))
 }
 
@@ -164,10 +164,10 @@ fn class_variables_answer_as_java_does(rt: HostRuntime) -> Result<(), Memory> {
 fn superclasses_answer_as_java_does(rt: HostRuntime) -> Result<(), Memory> {
     let mut heap = Heap::new(rt.alloc(), 0)?;
     let rows = [
-        // Block, Return, CallVirtual, New, Local, the slot, the body's 5, and the body's 10
-        (Sample::Sums(A), 7, 100, gave(8), 21),
+        // Block, Return, CallVirtual, New, Local, the slot, the body's 5 and the superclass's Block, and the body's 10
+        (Sample::Sums(A), 7, 100, gave(8), 22),
         // two slots; the superclass's method reads its field, and calls the class's own method
-        (Sample::Sums(B), 7, 100, gave(10), 22),
+        (Sample::Sums(B), 7, 100, gave(10), 24),
         (Sample::Sums(B), 7, 6, SPENT, 5),
     ];
     answer(&rt, rt.alloc(), &mut heap, &rows)
@@ -177,14 +177,14 @@ fn superclasses_answer_as_java_does(rt: HostRuntime) -> Result<(), Memory> {
 fn bridges_answer_as_java_does(rt: HostRuntime) -> Result<(), Memory> {
     let mut heap = Heap::new(rt.alloc(), 0)?;
     let rows = [
-        // Block, Return, CallVirtual, New, Local, the slot, the body's 5, the same for the argument, and the body's 3
-        (Sample::Takes(A, Some(A)), 7, 100, gave(2), 22),
-        (Sample::Takes(A, None), 7, 100, gave(2), 15),
-        // two slots of a B, and none of a D, whose constructor's body is a Block
-        (Sample::Takes(B, Some(D)), 7, 100, gave(4), 18),
-        (Sample::Takes(B, None), 7, 100, gave(4), 16),
+        // Block, Return, CallVirtual, New, Local, the slot, the constructors' 6, the same for the argument, and the body's 3
+        (Sample::Takes(A, Some(A)), 7, 100, gave(2), 24),
+        (Sample::Takes(A, None), 7, 100, gave(2), 16),
+        // two slots of a B with two constructors above, and none of a D, whose constructor's body is a Block
+        (Sample::Takes(B, Some(D)), 7, 100, gave(4), 21),
+        (Sample::Takes(B, None), 7, 100, gave(4), 18),
         // an A is no D: no body begins, and the exception is the ninth object
-        (Sample::Takes(B, Some(A)), 7, 100, thrown(8), 20),
+        (Sample::Takes(B, Some(A)), 7, 100, thrown(8), 23),
     ];
     answer(&rt, rt.alloc(), &mut heap, &rows)
 }

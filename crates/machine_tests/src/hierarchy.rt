@@ -1,7 +1,7 @@
 // Programs of a class A, a class B below it, and a class D, whose superclass has a static int method f of an int x.
 
 use crate::nodes::{
-    NOWHERE, class, constant, gives, list, local, method, node, null, statement, variable,
+    INT, NOWHERE, class, constant, gives, list, local, method, node, null, statement, variable,
 };
 use je_core::{
     Base, BinOp, Bridge, Class, ClassId, Expr, Form, Memory, Method, NameId, Program, Stmt,
@@ -119,10 +119,17 @@ fn constructor(alloc: Global) -> Result<Method, Memory> {
     let value = local(alloc, 0)?;
     let expr = node(alloc, Form::Assign { place, value })?;
     let set = statement(alloc, StmtForm::Do { expr })?;
-    named(alloc, 0, None, Some(set))
+    let mut constructor = named(alloc, 0, None, Some(set))?;
+    constructor.params.push(INT)?;
+    Ok(constructor)
 }
 
-// class A { int n; A(int x) { n = x; } int one() { return 1; } int sum() { return n + one(); } int takes(T t) { return 2; } }
+// C() {}
+pub fn plain_constructor(alloc: Global) -> Result<Method, Memory> {
+    named(alloc, 0, None, None)
+}
+
+// class A { int n; A(int x) { n = x; } int one() { return 1; } int sum() { return n + one(); } int takes(T t) { return 2; } A() {} }
 fn upper(alloc: Global) -> Result<Class, Memory> {
     let called = call(alloc, this(alloc)?, ONE, None)?;
     let sum = node(
@@ -140,6 +147,7 @@ fn upper(alloc: Global) -> Result<Class, Memory> {
     )?;
     methods.push(named(alloc, 2, None, Some(gives(alloc, sum)?))?)?;
     methods.push(telling(alloc, 3, Some(TOP), 2)?)?;
+    methods.push(plain_constructor(alloc)?)?;
     let mut upper = class(alloc, Some(TOP), methods)?;
     upper.fields.push(variable(false))?;
     Ok(upper)
@@ -162,13 +170,21 @@ fn lower(alloc: Global) -> Result<Class, Memory> {
     Ok(lower)
 }
 
+// The class where Object stands, whose f returns a value; a constructor is in the place of Object's own.
+pub fn top(alloc: Global, value: Rc<Expr>) -> Result<Class, Memory> {
+    let mut called = method(alloc, true, list(alloc, Some(gives(alloc, value)?), None)?)?;
+    called.params.push(INT)?;
+    let mut methods = list(alloc, Some(called), Some(plain_constructor(alloc)?))?;
+    methods.push(plain_constructor(alloc)?)?;
+    class(alloc, None, methods)
+}
+
 // The program whose f returns a value.
 fn program(alloc: Global, value: Rc<Expr>) -> Result<Program, Memory> {
-    let called = method(alloc, true, list(alloc, Some(gives(alloc, value)?), None)?)?;
-    let top = class(alloc, None, list(alloc, Some(called), None)?)?;
+    let top = top(alloc, value)?;
     let mut classes = list(alloc, Some(top), Some(upper(alloc)?))?;
     classes.push(lower(alloc)?)?;
-    let empty = named(alloc, 0, None, None)?;
+    let empty = plain_constructor(alloc)?;
     classes.push(class(alloc, Some(TOP), list(alloc, Some(empty), None)?)?)?;
     for _ in 4..CLASSES {
         classes.push(class(alloc, Some(TOP), Vec::new(alloc))?)?;

@@ -2,7 +2,7 @@
 // strings, and a class A with a String field t and a toString of its own.
 
 use crate::nodes::{
-    NOWHERE, ONLY, assign, class, constant, gives, letter, list, local, method, node, null,
+    INT, NOWHERE, ONLY, assign, class, constant, gives, letter, list, local, method, node, null,
     statement, text, typed, variable,
 };
 use je_core::{
@@ -222,9 +222,10 @@ fn telling(alloc: Global, parts: Vec<Rc<Stmt>>) -> Result<Method, Memory> {
     Ok(told)
 }
 
-// The class where Object stands: s, f, two methods and toString.
+// The class where Object stands: s, f, two constructors and toString.
 fn object_class(alloc: Global, called: Vec<Rc<Stmt>>) -> Result<Class, Memory> {
-    let first = method(alloc, true, called)?;
+    let mut first = method(alloc, true, called)?;
+    first.params.push(INT)?;
     let mut methods = list(alloc, Some(first), Some(nothing(alloc)?))?;
     methods.push(nothing(alloc)?)?;
     methods.push(telling(alloc, Vec::new(alloc))?)?;

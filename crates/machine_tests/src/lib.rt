@@ -4,6 +4,8 @@
 #[cfg(test)]
 mod calls;
 #[cfg(test)]
+mod constructors;
+#[cfg(test)]
 mod hierarchy;
 #[cfg(test)]
 mod joining;

@@ -49,21 +49,21 @@ fn strings_are_joined_as_java_does(rt: HostRuntime) -> Result<(), Memory> {
     let rows: [Row; 10] = [
         // Block, Return, 4 Concat, Text, 4 Const, and 2, 3, 7 and 11 units
         (Joins::Values, Tells::Letter, b"a1cnulltrue", 34),
-        // Block, Return, Concat, Text, New, the slot, the constructor's Block, the body's 3, and 2 units
-        (Joins::ObjectBehind, Tells::Letter, b"ab", 12),
-        (Joins::ObjectBehind, Tells::Null, b"anull", 15),
-        (Joins::ObjectBefore, Tells::Letter, b"ba", 12),
-        // 7 nodes with the slot, the body's 5 and its 5 units, and 6 units
-        (Joins::ObjectBefore, Tells::Field, b"nullba", 23),
-        // 8 nodes with the slot, the body's 4 and 5 units, 6 units, 3 with the slot, the body's 4 and 6 units, and 12 units
-        (Joins::Two, Tells::Variable, b"anullbnullbb", 48),
+        // Block, Return, Concat, Text, New, the slot, the constructors' 2 Blocks, the body's 3, and 2 units
+        (Joins::ObjectBehind, Tells::Letter, b"ab", 13),
+        (Joins::ObjectBehind, Tells::Null, b"anull", 16),
+        (Joins::ObjectBefore, Tells::Letter, b"ba", 13),
+        // 8 nodes with the slot, the body's 5 and its 5 units, and 6 units
+        (Joins::ObjectBefore, Tells::Field, b"nullba", 24),
+        // 9 nodes with the slot, the body's 4 and 5 units, 6 units, 4 with the slot, the body's 4 and 6 units, and 12 units
+        (Joins::Two, Tells::Variable, b"anullbnullbb", 50),
         // both operands have values before one of them comes to its text (JLS 15.18.1)
-        (Joins::Later, Tells::Reads, b"bb", 13),
+        (Joins::Later, Tells::Reads, b"bb", 14),
         // Block, Do, Assign, Text, Do, Update, Local, 2 units, Return and Local
         (Joins::Local, Tells::Letter, b"a7", 11),
         (Joins::Variable, Tells::Letter, b"null7", 9),
-        // 5 and the array's length, 4, New, the slot and the constructor's Block, the body's 3, and 5 units
-        (Joins::Element, Tells::Letter, b"nullb", 21),
+        // 5 and the array's length, 4, New, the slot and the constructors' Blocks, the body's 3, and 5 units
+        (Joins::Element, Tells::Letter, b"nullb", 22),
     ];
     for (joins, tells, want, cost) in rows {
         let mut heap = heap_with_texts(alloc)?;
@@ -93,13 +93,13 @@ fn joining_ends_where_an_operand_throws_or_units_are_spent(rt: HostRuntime) -> R
     let thrown = Some(Next::Thrown(ObjId(3)));
     let rows = [
         // "a", "b" and the operand are there before what is thrown, an object of one slot
-        (Joins::ObjectBehind, Tells::Throws, 100, thrown, 12),
-        (Joins::ObjectBefore, Tells::Throws, 100, thrown, 12),
+        (Joins::ObjectBehind, Tells::Throws, 100, thrown, 14),
+        (Joins::ObjectBefore, Tells::Throws, 100, thrown, 14),
         // in the body of `toString()`, and at the new string
         (Joins::ObjectBehind, Tells::Letter, 8, SPENT, 8),
-        (Joins::ObjectBehind, Tells::Letter, 11, SPENT, 10),
+        (Joins::ObjectBehind, Tells::Letter, 12, SPENT, 11),
         (Joins::Values, Tells::Letter, 33, SPENT, 23),
-        (Joins::Element, Tells::Letter, 20, SPENT, 16),
+        (Joins::Element, Tells::Letter, 21, SPENT, 17),
     ];
     for (joins, tells, units, want, cost) in rows {
         let mut heap = heap_with_texts(alloc)?;
