@@ -8,7 +8,7 @@ ghost use Rattle.je_typing.specs.Answers.{IsFault};
 ghost use Rattle.je_typing.specs.Judged.{gives};
 ghost use Rattle.member_lookup.specs.Founds.{found_seen};
 ghost use Rattle.name_types.specs.View.{base_shown, shown};
-ghost use Rattle.name_typing.specs.Accesses.{field_of_value as the_field_of_value, has_members as the_has_members, is_array as the_is_array, is_length as the_is_length, member_of_value as the_member_of_value, first_type as the_first_type, static_field as the_static_field, static_value as the_static_value, super_field as the_super_field, superclass_of as the_superclass_of, typed_selected as the_typed_selected, typed_static as the_typed_static};
+ghost use Rattle.name_typing.specs.Accesses.{field_of_value as the_field_of_value, is_array as the_is_array, is_length as the_is_length, member_of_value as the_member_of_value, static_field as the_static_field, static_value as the_static_value, super_field as the_super_field, typed_selected as the_typed_selected, typed_static as the_typed_static};
 ghost use Rattle.source_subtypes.specs.View.{heads_of};
 ghost use Rattle.source_types.specs.Subtypes.{is_null as the_is_null};
 ghost use Rattle.typed_nodes.specs.Seen.{seen};
@@ -26,39 +26,12 @@ use je_ast::Identifier;
 use je_base::{Memory, Span};
 use je_core::{Base, ClassId, Expr, Mark, make_field, make_static};
 use je_typing::{Refusal, TypeRule, check};
+use member_values::{has_members, superclass_of};
 use name_types::{SrcBase, SrcTy};
 use source_subtypes::{ClassHeads, copied, erased, object};
 use std::alloc::Global;
 use typed_nodes::{TypedExpr, is_reference};
 use variable_steps::constant_or;
-
-fn is_null_base(base: Base) -> bool
-    ensures { result ≡ base_types.is_null base }
-{
-    match base {
-        Base::Null => true,
-        _ => false,
-    }
-}
-
-#[tactic(auto, using(name_types::proofs::Views::base_is))]
-fn is_null_in(base: &SrcBase) -> bool
-    ensures { (n : ℕ) → result ≡ the_is_null (base_shown base.now n) }
-{
-    match base {
-        SrcBase::Plain(plain) => is_null_base(*plain),
-        SrcBase::Made(_, _) => false,
-        SrcBase::Var(_, _) => false,
-    }
-}
-
-// A primitive type has no members, nor has that of `null`.
-#[tactic(auto, using(name_types::proofs::Views::type_is))]
-fn has_members(ty: &SrcTy) -> bool
-    ensures { result ≡ the_has_members (shown ty.now) }
-{
-    is_reference(ty) && !is_null_in(&ty.base)
-}
 
 fn selected_node(alloc: Global, mark: Mark, on: Expr, selected: Selected) -> Result<Expr, Memory>
     ensures { Makes result mark (form_selected (view on) (selected_seen selected.entry)) }
@@ -228,22 +201,6 @@ pub fn static_value(
         }
         Found::Nothing | Found::Several => Ok(field),
     }
-}
-
-fn first_type(alloc: Global, types: &[SrcTy]) -> Result<SrcTy, Memory>
-    ensures { IfOk result (λ t. shown t ≡ the_first_type (map shown types.now)) }
-{
-    match types {
-        [first, ..] => copied(alloc, first),
-        [] => Ok(object()),
-    }
-}
-
-// The superclass of a class, Object where it has none.
-fn superclass_of(alloc: Global, heads: &ClassHeads, class: ClassId) -> Result<SrcTy, Memory>
-    ensures { IfOk result (λ t. shown t ≡ the_superclass_of (heads_of heads.now) class.0) }
-{
-    first_type(alloc, heads.supers(class))
 }
 
 /// `super.name` (JLS 15.11.2); `word` is the span of `super`, `span` that of the whole.

@@ -25,11 +25,12 @@ use je_ast::Identifier;
 use je_base::{Memory, Span};
 use je_core::ClassId;
 use je_typing::{Refusal, TypeFault, TypeRule, check};
+use member_values::taken;
 use name_lookup::{Look, is_accessible};
 use std::alloc::Global;
 use type_faults::Program as Source;
 use typed_nodes::TypedExpr;
-use variable_steps::{Variable, is_nothing, named_value, taken, variable_named};
+use variable_steps::{Variable, is_nothing, named_value, variable_named};
 
 // A type variable has no members; a name with several meanings has none.
 #[tactic(auto, using(je_typing::proofs::Walks::walks))]

@@ -17,8 +17,8 @@ use je_ast::Identifier;
 use je_base::Span;
 use je_core::ClassId;
 use je_typing::{Refusal, TypeFault, TypeRule};
+use member_values::taken;
 use typed_nodes::TypedExpr;
-use variable_steps::taken;
 
 #[tactic(auto, unfolding(name_typing::specs::Qualified::assigned_select), using(je_typing::proofs::Walks::walks))]
 fn assigned_in_class(

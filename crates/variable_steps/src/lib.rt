@@ -9,5 +9,5 @@ mod values;
 mod variables;
 
 pub use finding::{Variable, is_nothing, variable_named};
-pub use values::{constant_or, taken};
+pub use values::constant_or;
 pub use variables::{assigned_name, named_value, simple_name, updated_name};

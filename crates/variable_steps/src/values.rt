@@ -1,11 +1,9 @@
 // The value of a variable (JLS 4.6, 15.28).
 
 ghost use Rattle.std.specs.Prelude.{◌≡◌, IfOk, option_map};
-ghost use Rattle.je_classes.specs.Subtypes.{same_type};
 ghost use Rattle.je_core.specs.Making.{IsNode};
 ghost use Rattle.je_core.specs.View.{view};
-ghost use Rattle.name_typing.specs.Variables.{constant_form, constant_or as the_constant_or, taken as the_taken, uses_for as the_uses_for, value_of as the_value_of};
-ghost use Rattle.source_subtypes.specs.View.{heads_of};
+ghost use Rattle.name_typing.specs.Variables.{constant_form, constant_or as the_constant_or, uses_for as the_uses_for, value_of as the_value_of};
 ghost use Rattle.typed_nodes.specs.Seen.{seen};
 ghost use Rattle.body_places.specs.Tables.{constant_seen};
 ghost use Rattle.variable_steps.specs.Variables.{variable_seen};
@@ -13,36 +11,10 @@ ghost use Rattle.body_places.specs.View.{program_seen};
 
 use body_places::Constant;
 use je_base::{Memory, Span};
-use je_core::{ClassId, Expr, Mark, Ty, Use, make_cast, make_const, make_text};
-use source_subtypes::{ClassHeads, erased};
+use je_core::{ClassId, Expr, Mark, Ty, Use, make_const, make_text};
 use std::alloc::Global;
 use text_members::copied;
 use typed_nodes::TypedExpr;
-
-fn is_same_type(ty: Ty, other: Ty) -> bool
-    ensures { result ≡ same_type ty other }
-{
-    ty == other
-}
-
-/// What is read of a variable: where its declared type has lost type arguments, it is asked for them by a cast.
-#[tactic(auto, unfolding(name_typing::specs::Variables::taken), using(je_core::proofs::Views::view_is))]
-pub fn taken(alloc: Global, heads: &ClassHeads, read: TypedExpr) -> Result<TypedExpr, Memory>
-    ensures { IfOk result (λ t. seen t ≡ the_taken (heads_of heads.now) (seen read)) }
-{
-    let ty = erased(heads, &read.ty);
-    if is_same_type(read.node.ty, ty) {
-        return Ok(read);
-    }
-    let TypedExpr { node, ty: of } = read;
-    let mark = Mark {
-        ty,
-        span: node.span,
-        at: node.at,
-    };
-    let node = make_cast(alloc, mark, node)?;
-    Ok(TypedExpr { node, ty: of })
-}
 
 fn constant_node(
     alloc: Global,

@@ -16,7 +16,7 @@ ghost use Rattle.body_places.specs.View.{program_seen};
 ghost use Rattle.variable_steps.specs.way.Named.{IsSmall, updated as the_updated, valued as the_valued};
 
 use crate::finding::{Variable, variable_named};
-use crate::values::{constant_or, taken};
+use crate::values::constant_or;
 use body_places::{
     Initializer, LocalVariable, Place, Program, Selected, captured_of, constant_of, has_instance,
     instance_node, need_field, this_node, uses_for,
@@ -28,6 +28,7 @@ use je_ast::Identifier;
 use je_base::{Memory, Span};
 use je_core::{ClassId, Expr, Mark, make_field, make_local, make_static};
 use je_typing::{Refusal, TypeFault, TypeRule, check};
+use member_values::taken;
 use source_subtypes::{copied, erased};
 use typed_nodes::TypedExpr;
 
