@@ -37,11 +37,11 @@ use Rattle.typing_laws.proofs.Values.{HasType}
 -- ---- primitive types
 
 -- a type that is a primitive one
-record IsPrimitive (t : SourceType) (b : Base) : Type 0 where
-  is : t ≡ plain b 0
-  known : is_primitive_base b ≡ true
+pub record IsPrimitive (t : SourceType) (b : Base) : Type 0 where
+  pub is : t ≡ plain b 0
+  pub known : is_primitive_base b ≡ true
 
-primitive-is : (t : SourceType) (b : Base) → primitive t ≡ Some b → IsPrimitive t b
+pub primitive-is : (t : SourceType) (b : Base) → primitive t ≡ Some b → IsPrimitive t b
 primitive-is (plain a zero) b e = bool_cases (λ c. is_primitive_base a ≡ c → (if c then Some a else None) ≡ Some b → IsPrimitive (plain a zero) b) (is_primitive_base a)
     (λ _ k r. subst (IsPrimitive (plain a zero)) (same_Some a b r) (record { is = refl; known = k })) (λ _ k r. absurd (none-some b r)) refl e
 primitive-is (plain a (suc n)) b e = absurd (none-some b e)
@@ -77,7 +77,7 @@ widens-number a b e = let k = two {a = nat_lt 0 (rank a) && nat_lt (rank a) (ran
     ranked-above c (base.Class d) h = absurd (none-below (rank c) h)
 
 -- a constant of a small type that is held by another one: both are numbers
-held-number : (b : Base) (z : ℤ) → holds b z ≡ true → is_number_base b ≡ true
+pub held-number : (b : Base) (z : ℤ) → holds b z ≡ true → is_number_base b ≡ true
 held-number base.Byte z h = refl
 held-number base.Short z h = refl
 held-number base.Char z h = refl
@@ -114,7 +114,7 @@ module _ (p : CoreProgram) (body : Body) (heads : List ClassHead) (from : TypedN
 
   -- ---- to a primitive type
 
-  to-base : (b a : Base) → is_primitive_base b ≡ true → ty_of from.node ≡ of a → CanBe a b → PassesAs p body heads (plain b 0) (converted b from.node)
+  pub to-base : (b a : Base) → is_primitive_base b ≡ true → ty_of from.node ≡ of a → CanBe a b → PassesAs p body heads (plain b 0) (converted b from.node)
   to-base b a k own can = record {
     node = λ texts h. converted-fits (with_texts p texts) body from.node a b own can (fit.node texts (converted-texts texts b from.node h));
     agree = λ texts. ap (λ (u : Ty). agrees (with_texts p texts) u (erased heads (plain b 0))) (converted-type b from.node)
@@ -148,14 +148,14 @@ module _ (p : CoreProgram) (body : Body) (heads : List ClassHead) (from : TypedN
 
   -- ---- to another type
 
-  with-texts : (texts : List (List ℕ)) → HasHeads (with_texts p texts) heads
+  pub with-texts : (texts : List (List ℕ)) → HasHeads (with_texts p texts) heads
   with-texts texts = record {
     supers = λ c t q. let s = known.supers c t q in record { class = s.class; arguments = s.arguments; is = s.is; above = s.above };
     bounds = known.bounds;
     variables = known.variables;
   }
 
-  by-subtype : (to : SourceType) → dims_of from.type ≤ 255 → dims_of to ≤ 255 → is_subtype heads from.type to ≡ true → PassesAs p body heads to from.node
+  pub by-subtype : (to : SourceType) → dims_of from.type ≤ 255 → dims_of to ≤ 255 → is_subtype heads from.type to ≡ true → PassesAs p body heads to from.node
   by-subtype to m n h = record {
     node = fit.node;
     agree = λ texts. ap (λ (u : Ty). agrees (with_texts p texts) u (erased heads to)) fit.type

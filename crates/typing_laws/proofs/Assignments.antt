@@ -55,7 +55,7 @@ module _ (p : CoreProgram) where
   unfolding types.is_subtype
   class-below b h = h
 
-  agrees-itself : (b : Base) (n : ℕ) → is_void_type (record { base = b; dims = n }) ≡ false → agrees p (record { base = b; dims = n }) (record { base = b; dims = n }) ≡ true
+  pub agrees-itself : (b : Base) (n : ℕ) → is_void_type (record { base = b; dims = n }) ≡ false → agrees p (record { base = b; dims = n }) (record { base = b; dims = n }) ≡ true
   agrees-itself b (suc n) h = or-right (is_primitive (record { base = b; dims = suc n }) && types.same_type (record { base = b; dims = suc n }) (record { base = b; dims = suc n })) _ (array-below b n)
   agrees-itself (base.Class c) zero h = or-right (is_primitive (of (base.Class c)) && types.same_type (of (base.Class c)) (of (base.Class c))) _ (class-below (base.Class c) (or-right (same_class c object_class) (is_below p c c) (below-itself p c)))
   agrees-itself base.Null zero h = or-right (is_primitive (of base.Null) && types.same_type (of base.Null) (of base.Null)) _ (class-below base.Null refl)

@@ -10,6 +10,7 @@ pub mod Subtypes
 pub mod Assigned
 pub mod Assignments
 pub mod References
+pub mod Choices
 pub mod Elements
 mod Rows
 mod HeadRows

@@ -86,7 +86,7 @@ wider-promoted base.Null c h = h
 wider-promoted base.Void c h = h
 wider-promoted (base.Class d) c h = h
 
-wider-number : (a c : Base) → is_number_base c ≡ true → is_number_base (wider a c) ≡ true
+pub wider-number : (a c : Base) → is_number_base c ≡ true → is_number_base (wider a c) ≡ true
 wider-number base.Long c h = refl
 wider-number base.Bool c h = h
 wider-number base.Byte c h = h

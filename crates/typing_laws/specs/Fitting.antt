@@ -1,4 +1,4 @@
--- When an expression of the core program that has a type in the source fits where it stands. The constant strings of a
+-- When an expression of the core program that has a type in the source fits where it stands. Constant strings of a
 -- program are known only when all of it is elaborated, so that is said for any, among which those of the node stand once.
 use Rattle.std.specs.Prelude.{◌≡◌, Bool, true, ℕ, List, count_by, nat_eq}
 use Rattle.std.specs.Str.{bytes_eq}

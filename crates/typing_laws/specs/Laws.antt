@@ -15,6 +15,7 @@ use Rattle.je_typing.specs.Literals.{literal_of}
 use Rattle.je_typing.specs.Operators.{concatenation, logical, plus, primitive_operation, reference_equality, unary}
 use Rattle.je_core.specs.declared.types.Base.{Base}
 use Rattle.je_typing.specs.Arrays.{element, length_of}
+use Rattle.je_typing.specs.Conditionals.{choice}
 use Rattle.je_typing.specs.Casts.{instance_of, primitive_cast, reference_cast}
 use Rattle.je_scopes.specs.SourceTypes.{SourceType}
 use Rattle.je_typing.specs.Typed.{TypedNode, element_type, is_primitive_base, is_string, is_void}
@@ -99,6 +100,12 @@ module _ (p : CoreProgram) (body : Body) (heads : List ClassHead) where
   TypeTestsFit = (to : SourceType) (type_span at span : Span) (operand : TypedNode) → BoundsFit heads →
       is_variable_type p (erased heads to) ≡ true → Fit operand →
       Gives Fit (instance_of heads to type_span at span operand)
+
+  -- JLS 15.25
+  abbrev pub ChoicesFit : Type 0
+  ChoicesFit = (at condition_span span : Span) (condition first other : TypedNode) → HasHeads p heads →
+      dims_of first.type ≤ 255 → dims_of other.type ≤ 255 → is_void first.type ≡ false → is_void other.type ≡ false →
+      Fit condition → Fit first → Fit other → Gives Fit (choice heads at condition_span span condition first other)
 
   -- ---- arrays
 

@@ -8,7 +8,7 @@ ghost use Rattle.typing_laws.specs.Passing.{AssignedValuesPass};
 ghost use Rattle.je_core.specs.Core.{CoreProgram};
 ghost use Rattle.je_fitting.specs.Expressions.{Body};
 ghost use Rattle.source_types.specs.Heads.{ClassHead};
-ghost use Rattle.typing_laws.specs.Laws.{AssignmentsFit, ConcatenationsFit, ElementsFit, LengthsFit, LiteralsFit};
+ghost use Rattle.typing_laws.specs.Laws.{AssignmentsFit, ChoicesFit, ConcatenationsFit, ElementsFit, LengthsFit, LiteralsFit};
 ghost use Rattle.typing_laws.specs.Laws.{LogicalOperationsFit, PlusFits, PrimitiveCastsFit, PrimitiveOperationsFit};
 ghost use Rattle.typing_laws.specs.Laws.{ReferenceCastsFit};
 ghost use Rattle.typing_laws.specs.Laws.{ReferenceEqualitiesFit, StepsFit, TypeTestsFit, UnaryOperationsFit, UpdatesFit};
@@ -104,4 +104,9 @@ pub fn elements_fit()
 /// The length of an array fits where the array does.
 pub fn lengths_fit()
     ensures { (p : CoreProgram) (body : Body) (heads : List ClassHead) → LengthsFit p body heads }
+{}
+
+/// The conditional operator fits where its operands do.
+pub fn choices_fit()
+    ensures { (p : CoreProgram) (body : Body) (heads : List ClassHead) → ChoicesFit p body heads }
 {}
