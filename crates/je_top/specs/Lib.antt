@@ -1,4 +1,3 @@
-pub mod Counts
 pub mod Files
 pub mod Plan
 pub mod Sink

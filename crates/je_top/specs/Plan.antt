@@ -1,37 +1,15 @@
--- Which calls are to fail, where that is told: the numbers, from 1, of those that do, and how many calls were made, a
--- number of 64 bits that stays at its greatest value once it is there.
-use Rattle.std.specs.Prelude.{ℕ, ◌+◌, ◌-◌, ◌^◌, min, List, Contains, Result, Ok, Err, IfSome, Some, None, option_map}
+-- Which reads and puts are to fail, and how many there were, after a call of the program.
+use Rattle.std.specs.Prelude.{ℕ, List, Result, Ok, Err, IfSome, Some, None}
 use Rattle.std.specs.declared.option.Option.{Option}
+use Rattle.planned_faults.specs.Plan.{Plan, after_one}
 use Rattle.je_top.specs.declared.files.FileFault.{FileFault}
 use Rattle.je_top.specs.declared.files.FileFault.TheVariants.{NotThere, TooLong, Failed, Memory}
 use Rattle.je_top.specs.Files.{Held}
-
-pub record Plan : Type 0 where
-  pub to_fail : List ℕ
-  pub made : ℕ
-
-abbrev pub next_call : Plan → ℕ
-next_call plan = min (plan.made + 1) (2 ^ 64 - 1)
-
-abbrev pub after_call : Plan → Plan
-after_call plan = record { to_fail = plan.to_fail; made = next_call plan }
-
--- what is told of the plan, after a call
-abbrev pub after_one : Option Plan → Option Plan
-after_one = option_map after_call
 
 -- what is told of the plan of the reads, after a call of the program: the file that is asked for is read once
 abbrev pub after_reads : Option (List ℕ) → Option Plan → Option Plan
 after_reads None plan = plan
 after_reads (Some name) plan = after_one plan
-
--- the next call is to fail
-abbrev pub FailsNext : Plan → Type 0
-FailsNext plan = Contains plan.to_fail (next_call plan)
-
--- the next call is to fail, by what is told of the plan
-abbrev pub IsPlanned : Option Plan → Type 0
-IsPlanned plan = IfSome plan FailsNext
 
 -- the read failed, unless memory ran out before that
 abbrev pub SaysFailed : Result Unit FileFault → Type 0

@@ -2,8 +2,9 @@
 
 ghost use Rattle.std.specs.Prelude.{◌≡◌, ◌≤◌, ℕ, List, ⊤, OnOk, IfSome, MatchOption, IsErrOf};
 ghost use Rattle.std.specs.declared.option.Option.{Option};
-ghost use Rattle.je_top.specs.Counts.{Rose};
-ghost use Rattle.je_top.specs.Plan.{Plan, after_one, IsPlanned, FailsNext, FailsIfHeld};
+ghost use Rattle.planned_faults.specs.Counts.{Rose};
+ghost use Rattle.planned_faults.specs.Plan.{Plan, after_one, IsPlanned, FailsNext};
+ghost use Rattle.je_top.specs.Plan.{FailsIfHeld};
 ghost use Rattle.je_top.specs.Files.{Held, IsWhole, IsFront, IsMissing, SaysMissing, KeepsCount, LeavesNothing, last_after};
 
 use thiserror::Error;

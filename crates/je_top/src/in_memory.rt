@@ -1,41 +1,15 @@
 // Files and a sink in memory. They tell all, and fail where they are told to.
 
-ghost use Rattle.std.specs.Prelude.{◌≡◌, ◌+◌, ◌-◌, ◌^◌, ◌↔◌, [], min, IsTrue, Contains, Some, string_bytes};
+ghost use Rattle.std.specs.Prelude.{◌≡◌, [], Some, string_bytes};
 ghost use Rattle.je_top.specs.InMemory.{files_of};
-ghost use Rattle.je_top.specs.Plan.{Plan};
+ghost use Rattle.planned_faults.specs.Plan.{Plan};
 
 use crate::FILE_LIMIT;
 use crate::files::{FileFault, Files};
 use crate::sink::{Sink, SinkFault};
+use planned_faults::Calls;
 use std::alloc::Global;
 use std::collections::BTreeMap;
-
-/// The numbers, from 1, of the calls that are to fail, and how many calls were made: at most the greatest u64.
-#[derive(Drop)]
-struct Calls {
-    to_fail: Vec<u64>,
-    made: u64,
-}
-
-impl Calls {
-    /// No call was made.
-    fn new(to_fail: Vec<u64>) -> Self
-        ensures to_fail { result.to_fail ≡ to_fail }
-        ensures made { result.made ≡ 0 }
-    {
-        Calls { to_fail, made: 0 }
-    }
-
-    /// Counts a call, and says whether it is to fail.
-    fn next_fails(&mut self) -> bool
-        ensures counted { self.new.made ≡ min (self.old.made + 1) (2 ^ 64 - 1) }
-        ensures fails { IsTrue result ↔ Contains self.old.to_fail.items self.new.made }
-        ensures to_fail { self.new.to_fail ≡ self.old.to_fail }
-    {
-        self.made = self.made.saturating_add(1);
-        self.to_fail.contains(&self.made)
-    }
-}
 
 /// Files that stand in memory.
 #[derive(Drop)]
@@ -75,9 +49,9 @@ impl Files for MemFiles {
 
     ghost last = { λ s. string_bytes s.last };
 
-    ghost plan = { λ s. Some (record { to_fail = s.reads.to_fail.items; made = s.reads.made }) };
+    ghost plan = { λ s. Some s.reads };
 
-    ghost is_calm = { λ s. s.reads.to_fail.items ≡ [] };
+    ghost is_calm = { λ s. s.reads.to_fail ≡ [] };
 
     fn read(&mut self, name: &str, into: &mut Vec<u8>) -> Result<(), FileFault> {
         into.clear();
@@ -145,9 +119,9 @@ impl Sink for MemSink {
 
     ghost faults = { λ s. s.faults };
 
-    ghost plan = { λ s. Some (record { to_fail = s.puts.to_fail.items; made = s.puts.made }) };
+    ghost plan = { λ s. Some s.puts };
 
-    ghost is_calm = { λ s. s.puts.to_fail.items ≡ [] };
+    ghost is_calm = { λ s. s.puts.to_fail ≡ [] };
 
     fn put(&mut self, piece: &[u8]) -> Result<(), SinkFault> {
         if self.puts.next_fails() {

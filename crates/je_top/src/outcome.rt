@@ -1,10 +1,11 @@
 // What a call owes: a status, and the text that is put for it.
 
 ghost use Rattle.std.specs.Prelude.{⊤, ◌≡◌, ◌≤◌, length, IfOk, IfSome};
-ghost use Rattle.je_top.specs.Counts.{Rose, Grew};
+ghost use Rattle.planned_faults.specs.Counts.{Rose, Grew};
 ghost use Rattle.je_top.specs.Files.{file_limit};
 ghost use Rattle.je_top.specs.Outcome.{asked_file, AsksFor, IsOwed, IsOwedForName, IsOwedForBytes};
-ghost use Rattle.je_top.specs.Plan.{after_one, after_reads, FailsNext, IsPlanned};
+ghost use Rattle.planned_faults.specs.Plan.{after_one, FailsNext, IsPlanned};
+ghost use Rattle.je_top.specs.Plan.{after_reads};
 
 use crate::files::{FileFault, Files};
 use crate::status::Status;

@@ -2,8 +2,8 @@
 
 ghost use Rattle.std.specs.Prelude.{◌≡◌, ◌≤◌, ℕ, List, OnOk, IfSome, IsErrOf};
 ghost use Rattle.std.specs.declared.option.Option.{Option};
-ghost use Rattle.je_top.specs.Counts.{Rose};
-ghost use Rattle.je_top.specs.Plan.{Plan, after_one, IsPlanned, FailsNext};
+ghost use Rattle.planned_faults.specs.Counts.{Rose};
+ghost use Rattle.planned_faults.specs.Plan.{Plan, after_one, IsPlanned, FailsNext};
 ghost use Rattle.je_top.specs.Sink.{grown, GrewByFront};
 
 use thiserror::Error;

@@ -1,11 +1,12 @@
 // The top call.
 
 ghost use Rattle.std.specs.Prelude.{⊤, ◌≡◌, ◌≤◌, ◌↔◌, ◌⊎◌, IfSome, IfNone};
-ghost use Rattle.je_top.specs.Counts.{Rose, Grew};
+ghost use Rattle.planned_faults.specs.Counts.{Rose, Grew};
 ghost use Rattle.je_top.specs.Files.{IsTooLong};
 ghost use Rattle.je_top.specs.Outcome.{asked_file, AsksForNone, AsksFor, CanRun, CannotRun};
 ghost use Rattle.je_top.specs.Outcome.{UnlessMemory, UnlessCut, UnlessFailed, Puts, PutsFront};
-ghost use Rattle.je_top.specs.Plan.{after_one, after_reads, FailsNext, IsPlanned};
+ghost use Rattle.planned_faults.specs.Plan.{after_one, FailsNext, IsPlanned};
+ghost use Rattle.je_top.specs.Plan.{after_reads};
 
 use crate::files::Files;
 use crate::outcome::outcome_of;
