@@ -19,7 +19,7 @@ use Rattle.je_typing.specs.Conversions.{assigned}
 use Rattle.je_typing.specs.Judged.{Judged, gives, ◌>>=◌, ◌>>◌, need}
 use Rattle.je_typing.specs.Typed.{TypedNode, element_type, primitive_type}
 use Rattle.name_typing.specs.Program.{Program}
-use Rattle.body_types.specs.BodyTypes.{body_type}
+use Rattle.body_types.specs.BodyTypes.{bare_type, body_type}
 use Rattle.statement_steps.specs.Conditions.{do_loop, if_statement, loop_statement, no_condition}
 use Rattle.statement_steps.specs.Jumps.{jump, labelled}
 use Rattle.statement_steps.specs.Returns.{Returning, returned, returned_value}
@@ -298,10 +298,11 @@ module _ (p : Program) (k : Known) (returning : Returning) where
       rest ← groups j of_enum (with_classes_of s d.scope) d.progress gs
       gives (one_more_group l d rest)
 
+    -- What is caught is a name, not a type: a class without its arguments is no fault there, but of what a `catch` may name.
     pub catches : Targets → Scope → Progress → Catches → Judged (ListDone Clause)
     catches j s pr tree.no_catches = gives (none_done pr)
     catches j s pr (tree.more_catches is_final q id opening b closing cs) = do
-      t ← body_type p s.place.here (caught_name q)
+      t ← bare_type p s.place.here (caught_name q)
       d ← statements j (with_local is_final (local_of id.name t is_final (next_number pr) None) s)
           (with_number p.heads id.name t is_final id.span pr) b
       rest ← catches j s d.progress cs
