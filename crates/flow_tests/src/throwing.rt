@@ -5,8 +5,8 @@ use crate::programs::{CONSTRUCTOR, class, fault_at, library, library_classes, ma
 use crate::trees::{at, block};
 use flow_base::{FaultKind, FirstFault, FlowFault};
 use je_core::{
-    Catch, ClassId, Initializer, Memory, Program, Sort, Stmt, make_do, make_local, make_new,
-    make_return, make_throw, make_try,
+    Catch, Class, ClassId, Initializer, Memory, Method, Program, Sort, Stmt, make_do, make_local,
+    make_new, make_return, make_throw, make_try,
 };
 use je_table::LibraryClass;
 use reported_exceptions::judge_program;
@@ -47,6 +47,10 @@ fn first(
         body: Rc::new(alloc, inner)?,
     })?;
     classes.push(anonymous)?;
+    first_of(alloc, classes)
+}
+
+fn first_of(alloc: Global, classes: Vec<Class>) -> Result<Option<FlowFault>, Memory> {
     let program = Program {
         classes,
         texts: Vec::new(alloc),
@@ -161,6 +165,37 @@ fn a_new_throws_what_its_class_does(rt: HostRuntime) -> Result<(), Memory> {
         fault_at(FaultKind::Unreported, 20)
     );
     assert_eq!(rt; first_of_new(alloc, &[E])?, None);
+    Ok(())
+}
+
+// A class in F's place whose constructor throws E, and below it one at 50 whose constructor has no word and declares these.
+fn first_below(alloc: Global, declared: &[ClassId]) -> Result<Option<FlowFault>, Memory> {
+    let mut classes = library_classes(alloc)?;
+    let exception = library(LibraryClass::Exception);
+    classes.push(class(alloc, Sort::Class, Some(exception)))?;
+    let mut above = class(alloc, Sort::Class, None);
+    above.methods.push(constructor(alloc, &[E])?)?;
+    classes.push(above)?;
+    let mut below = class(alloc, Sort::Class, Some(F));
+    below.span = at(50);
+    below.methods.push(constructor(alloc, declared)?)?;
+    classes.push(below)?;
+    first_of(alloc, classes)
+}
+
+fn constructor(alloc: Global, declared: &[ClassId]) -> Result<Method, Memory> {
+    let body = Rc::new(alloc, nothing(alloc)?)?;
+    method(alloc, CONSTRUCTOR, declared, Some(body))
+}
+
+#[test]
+fn a_constructor_throws_what_that_of_its_superclass_does(rt: HostRuntime) -> Result<(), Memory> {
+    let alloc = rt.alloc();
+    assert_eq!(rt;
+        first_below(alloc, &[])?,
+        fault_at(FaultKind::Unreported, 50)
+    );
+    assert_eq!(rt; first_below(alloc, &[E])?, None);
     Ok(())
 }
 

@@ -4,10 +4,12 @@ use Rattle.je_core.specs.declared.program.Sort.{Sort}
 use Rattle.je_core.specs.declared.program.Sort.TheVariants as sort
 use Rattle.je_core.specs.declared.types.ClassId.{ClassId}
 use Rattle.je_core.specs.Core.{CoreStmt, CoreInitializer, CoreMethod, CoreClass, CoreProgram}
-use Rattle.je_classes.specs.Members.{names_constructors}
+use Rattle.je_classes.specs.Members.{Member, names_constructors}
+use Rattle.constructor_calls.specs.Calls.{implicitly_called}
 use Rattle.flow_base.specs.FaultSets.{Faults, none, ◌∪◌, of_each}
 use Rattle.reported_exceptions.specs.declared.throws.Throw.{Throw}
 use Rattle.reported_exceptions.specs.Throws.{Throws, nothing, ◌also◌, out_of}
+use Rattle.reported_exceptions.specs.Expressions.{call_throws}
 use Rattle.reported_exceptions.specs.Handled.{unreported}
 use Rattle.reported_exceptions.specs.Statements.{statement_throws, statement_faults}
 
@@ -28,6 +30,14 @@ all_unreported p declared thrown = of_each (unreported p declared) thrown
 -- What instance initializers throw, each constructor declares.
 abbrev pub declaring_faults : CoreProgram → List Throw → CoreMethod → Faults
 declaring_faults p thrown m = if names_constructors p m.name then all_unreported p m.throws thrown else none
+
+-- A superclass's constructor that one calls by no word of its own throws at the class (JLS 8.8.7, 8.8.9, 11.2.3).
+abbrev pub implicit_throws : CoreProgram → CoreClass → Option Member → Throws
+implicit_throws p c None = nothing
+implicit_throws p c (Some called) = call_throws p called.class called.at c.span
+
+abbrev pub implicit_faults : CoreProgram → CoreClass → CoreMethod → Faults
+implicit_faults p c m = all_unreported p m.throws (out_of p (implicit_throws p c (implicitly_called p c.superclass m)))
 
 module _ (p : CoreProgram) (makings : List (List ClassId)) where
   -- ---- of the static initializers of a class, and of the others
@@ -82,6 +92,7 @@ module _ (p : CoreProgram) (makings : List (List ClassId)) where
 
   unfoldable pub class_faults : CoreClass → Faults
   class_faults c = static_faults c.initializers ∪ instance_faults (is_anonymous c) c ∪ of_each (method_faults (is_anonymous c)) c.methods
+      ∪ of_each (implicit_faults p c) c.methods
 
 -- From the last class on, since an anonymous class stands behind the one in which its `new` does.
 abbrev pub makings : CoreProgram → List CoreClass → List (List ClassId)

@@ -2,17 +2,19 @@
 
 ghost use Rattle.std.specs.Prelude.{◌≡◌, ◌++◌, ◌∷◌, [], IfOk, OnOk, map};
 ghost use Rattle.je_core.specs.View.{stmt_view, initializer_view, method_view, class_view, program_view};
+ghost use Rattle.constructor_calls.specs.Calls.{implicitly_called as the_implicitly_called};
 ghost use Rattle.flow_base.specs.FaultSets.{of_each};
 ghost use Rattle.flow_base.specs.way.Kept.{first_of};
-ghost use Rattle.reported_exceptions.specs.Programs.{is_anonymous as the_is_anonymous, is_anonymous_sort as the_is_anonymous_sort, class_of, initializer_throws, initializers_throw, initializer_faults, constructor_throws, constructors_throw, making as the_making, static_faults, declaring_faults, instance_faults, body_faults, method_faults, class_faults, classes_faults, program_faults};
+ghost use Rattle.reported_exceptions.specs.Programs.{is_anonymous as the_is_anonymous, is_anonymous_sort as the_is_anonymous_sort, class_of, initializer_throws, initializers_throw, initializer_faults, constructor_throws, constructors_throw, making as the_making, static_faults, declaring_faults, instance_faults, body_faults, method_faults, implicit_throws, implicit_faults, class_faults, classes_faults, program_faults};
 ghost use Rattle.reported_exceptions.specs.Throws.{out_behind};
 ghost use Rattle.reported_exceptions.specs.View.{row, rows};
 
 use crate::handled::report;
 use crate::making::Making;
 use crate::statements::walk_statement;
-use crate::throws::Throw;
+use crate::throws::{Throw, throw_member};
 use class_members::names_constructors;
+use constructor_calls::implicitly_called;
 use flow_base::FirstFault;
 use je_core::{Class, ClassId, Initializer, Memory, Method, Program, Sort, Stmt};
 use std::alloc::Global;
@@ -79,7 +81,8 @@ fn judge_class(
     let anonymous = is_anonymous(class);
     judge_static(alloc, program, makings, &class.initializers, found)?;
     judge_instance(alloc, program, makings, anonymous, class, found)?;
-    judge_methods(alloc, program, makings, anonymous, &class.methods, found)
+    judge_methods(alloc, program, makings, anonymous, &class.methods, found)?;
+    judge_implicit(alloc, program, class, &class.methods, found)
 }
 
 fn is_anonymous(class: &Class) -> bool
@@ -94,6 +97,60 @@ fn is_anonymous_sort(sort: Sort) -> bool
     match sort {
         Sort::Anonymous => true,
         _ => false,
+    }
+}
+
+// ---- the superclass's constructor that one calls by no word of its own
+
+fn judge_implicit(
+    alloc: Global,
+    program: &Program,
+    class: &Class,
+    methods: &[Method],
+    found: &mut FirstFault,
+) -> Result<(), Memory>
+    ensures { OnOk result (found.new ≡ first_of found.old (of_each
+        (implicit_faults (program_view program.now) (class_view class.now))
+        (map method_view methods.now))) }
+{
+    for method in methods {
+        report_implicit(alloc, program, class, method, found)?;
+    }
+    Ok(())
+}
+
+// Adds a fault for each class that it declares and the constructor doesn't.
+fn report_implicit(
+    alloc: Global,
+    program: &Program,
+    class: &Class,
+    method: &Method,
+    found: &mut FirstFault,
+) -> Result<(), Memory>
+    ensures { OnOk result (found.new ≡ first_of found.old (implicit_faults
+        (program_view program.now) (class_view class.now) (method_view method.now))) }
+{
+    let mut thrown = Vec::new(alloc);
+    throw_implicit(alloc, program, class, method, &mut thrown)?;
+    report(alloc, program, &method.throws, &thrown, found)
+}
+
+// Adds what it throws, at the class.
+fn throw_implicit(
+    alloc: Global,
+    program: &Program,
+    class: &Class,
+    method: &Method,
+    thrown: &mut Vec<Throw>,
+) -> Result<(), Memory>
+    ensures { OnOk result (thrown.new.items ≡ out_behind (program_view program.now)
+        thrown.old.items (implicit_throws (program_view program.now) (class_view class.now)
+        (the_implicitly_called (program_view program.now) class.now.superclass
+        (method_view method.now)))) }
+{
+    match implicitly_called(program, class.superclass, method) {
+        None => Ok(()),
+        Some((above, place)) => { throw_member(alloc, program, above, place, class.span, thrown) }
     }
 }
 

@@ -90,7 +90,22 @@ pub fn throw_call(
     ensures { OnOk result (thrown.new.items ≡ out_behind (program_view program.now)
         thrown.old.items (call_throws (program_view program.now) class method at)) }
 {
-    match method_at(program, class, method as usize) {
+    throw_member(alloc, program, class, method as usize, at, thrown)
+}
+
+/// The same, by the method's place.
+pub fn throw_member(
+    alloc: Global,
+    program: &Program,
+    class: ClassId,
+    place: usize,
+    at: Span,
+    thrown: &mut Vec<Throw>,
+) -> Result<(), Memory>
+    ensures { OnOk result (thrown.new.items ≡ out_behind (program_view program.now)
+        thrown.old.items (call_throws (program_view program.now) class place at)) }
+{
+    match method_at(program, class, place) {
         None => Ok(()),
         Some(method) => throw_each(alloc, program, &method.throws, at, thrown),
     }
