@@ -57,10 +57,33 @@ impl Headers {
             });
         };
         let look = self.in_scope(alloc, sites, place, first.name)?;
-        if look.is_nothing() {
+        self.meaning_behind(alloc, sites, look, parts, further)
+    }
+
+    /// What a name means whose first part means this, with the parts behind that one; where that means nothing, the
+    /// whole name means a class of the library.
+    pub fn meaning_behind(
+        &self,
+        alloc: Global,
+        sites: &Sites,
+        first: Look,
+        parts: &[Identifier],
+        further: &[Identifier],
+    ) -> Result<Meaning, Memory>
+        requires { AreHeadersOf (source_of sites.now) self.now }
+        ensures look { IfOk result (λ m. look_view m.look ≡
+            scope.or_full_name (source_of sites.now) parts.now (look_view first)
+            (scope.qualified (source_of sites.now) (known_of self.now)
+            (look_view first) further.now)) }
+        ensures named { IfOk result (λ m. numbers m.named.items ≡
+            scope.or_whole (source_of sites.now) parts.now (look_view first)
+            (scope.named_on (source_of sites.now) (known_of self.now)
+            (look_view first) further.now)) }
+    {
+        if first.is_nothing() {
             return self.whole(alloc, Look::of(sites.full_name(alloc, parts)?));
         }
-        self.qualified(alloc, sites, look, further)
+        self.qualified(alloc, sites, first, further)
     }
 
     // A name that means this as a whole.

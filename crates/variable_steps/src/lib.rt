@@ -10,4 +10,4 @@ mod variables;
 
 pub use finding::{Variable, is_nothing, variable_named};
 pub use values::constant_or;
-pub use variables::{assigned_name, named_value, simple_name, updated_name};
+pub use variables::{assigned_name, named_value, simple_name, typed_local, updated_name};

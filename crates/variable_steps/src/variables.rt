@@ -32,7 +32,12 @@ use member_values::taken;
 use source_subtypes::{copied, erased};
 use typed_nodes::TypedExpr;
 
-fn typed_local(program: &Program, local: &LocalVariable, at: Span) -> Result<TypedExpr, Memory>
+/// A local of the body itself, at a place of its text.
+pub fn typed_local(
+    program: &Program,
+    local: &LocalVariable,
+    at: Span,
+) -> Result<TypedExpr, Memory>
     ensures { IfOk result (λ t. seen t ≡
         the_typed_local (program_seen program.now) (local_seen local.now) at) }
 {

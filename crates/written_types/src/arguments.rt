@@ -37,7 +37,7 @@ fn span_of_here(ty: &TyName) -> Span
 /// Nothing where each type argument that is written of a type is below its bound, else the fault of the first
 /// that isn't.
 #[tactic(auto, using(name_types::proofs::Views::type_is))]
-pub(crate) fn bounded(
+pub fn bounded(
     alloc: Global,
     heads: &ClassHeads,
     ty: &SrcTy,

@@ -8,6 +8,7 @@
 mod arguments;
 mod walk;
 
+pub use arguments::bounded;
 pub use walk::{
-    Surroundings, judge_declared, judge_formal, judge_optional_type, judge_type, meaning,
+    Surroundings, is_in_limit, judge_declared, judge_formal, judge_optional_type, judge_type, meaning,
 };

@@ -105,7 +105,8 @@ pub fn meaning(all: Surroundings, place: Place, ty: &TyName) -> Result<SrcTy, Me
     source_type(program.headers, program.alloc, program.sites, place, ty)
 }
 
-fn is_in_limit(dims: usize) -> bool
+/// Whether a type may have so many dimensions (JVMS 4.3.2).
+pub fn is_in_limit(dims: usize) -> bool
     ensures { result ≡ the_is_in_limit dims }
 {
     dims <= 255
