@@ -1,1 +1,2 @@
 pub mod Outwards
+pub mod Frames

@@ -13,5 +13,5 @@ program_seen p = record {
   classes = classes_of p.classes;
   constants = constant_at p.constants.now;
   outer = outer_of p.outer.now;
-  captured = captured_in p.captured.now;
+  captured = captured_in p.captured.now (classes_of p.classes);
 }

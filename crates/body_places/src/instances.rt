@@ -6,6 +6,7 @@ ghost use Rattle.je_typing.specs.Answers.{IsFault};
 ghost use Rattle.je_typing.specs.Judged.{gives};
 ghost use Rattle.name_typing.specs.Instances.{has_instance as the_has_instance, instance_node as the_instance_node, is_instance as the_is_instance, outer_this as the_outer_this, steps_from, steps_to as the_steps_to, this as the_this, this_node as the_this_node, ty_of_class as the_ty_of_class};
 ghost use Rattle.name_typing.specs.Program.{frames};
+ghost use Rattle.name_typing.specs.Variables.{class_of_frame};
 ghost use Rattle.name_walk.specs.View.{context_view};
 ghost use Rattle.typed_nodes.specs.Seen.{seen};
 ghost use Rattle.body_places.specs.Places.{frame_seen, place_seen};
@@ -56,6 +57,19 @@ pub fn has_instance(place: Place, steps: usize) -> bool
         return false;
     }
     steps == 0 || has_outwards(place.round, steps - 1)
+}
+
+/// The class so many classes outwards.
+pub fn class_outwards(place: Place, outwards: usize) -> ClassId
+    ensures { result.0 ≡ class_of_frame (frames (place_seen place.entry)) outwards }
+{
+    if outwards == 0 {
+        return place.here.class;
+    }
+    match place.round.get(outwards - 1) {
+        Some(frame) => frame.class,
+        None => ClassId(0),
+    }
 }
 
 fn ty_of_class(class: ClassId) -> Ty

@@ -1,7 +1,7 @@
 // What is known of fields by their classes: constants, and what a class keeps of what is round it.
 
 ghost use Rattle.std.specs.Prelude.{◌≡◌, option_map};
-ghost use Rattle.body_places.specs.Tables.{captured_in, constant_at, constant_seen, field_from, outer_of as the_outer_of};
+ghost use Rattle.body_places.specs.Tables.{constant_at, constant_seen, outer_of as the_outer_of};
 
 use je_base::Units;
 use je_core::{ClassId, Value};
@@ -18,8 +18,8 @@ pub enum Constant {
 /// A field in which an instance of a class keeps the value of a local of a body outside it.
 #[derive(Clone, Copy, PartialEq, Eq, Debug)]
 pub struct Captured {
-    /// How many classes outwards the body stands.
-    pub outwards: usize,
+    /// The class of the body.
+    pub owner: ClassId,
     /// The local's number in its body.
     pub local: u32,
     /// The field's place in the class.
@@ -47,28 +47,6 @@ pub fn outer_of(outer: &[u32], class: ClassId) -> u32
 {
     match outer.get(class.0 as usize) {
         Some(field) => *field,
-        None => 0,
-    }
-}
-
-fn field_among(fields: &[Captured], outwards: usize, local: u32) -> u32
-    ensures { result ≡ field_from fields.now outwards local }
-{
-    for field in fields {
-        if field.outwards == outwards && field.local == local {
-            return field.field;
-        }
-    }
-    0
-}
-
-/// The place of the field in which an instance of a class keeps the value of a local of the body so many classes
-/// outwards.
-pub fn captured_of(captured: &[Vec<Captured>], class: ClassId, outwards: usize, local: u32) -> u32
-    ensures { result ≡ captured_in captured.now class.0 outwards local }
-{
-    match captured.get(class.0 as usize) {
-        Some(fields) => field_among(fields, outwards, local),
         None => 0,
     }
 }

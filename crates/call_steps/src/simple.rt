@@ -20,7 +20,7 @@ ghost use Rattle.call_steps.specs.way.Found.{any};
 
 use crate::calling::method_of_class;
 use crate::calls::Calls;
-use body_places::{Frame, Place, has_instance, instance_node};
+use body_places::{Frame, Place, class_outwards, has_instance, instance_node};
 use call_parts::{call_on, exact_call};
 use je_ast::Identifier;
 use je_base::{Memory, NameId, Span};
@@ -80,19 +80,6 @@ fn steps_to_method(calls: Calls, place: Place, name: NameId) -> Result<Option<us
     }
     let steps = steps_round(calls, name, place.round)?;
     Ok(steps)
-}
-
-// The class so many classes outwards.
-fn class_outwards(place: Place, steps: usize) -> ClassId
-    ensures { result.0 ≡ the_class_outwards (place_seen place.entry) steps }
-{
-    if steps == 0 {
-        return place.here.class;
-    }
-    match place.round.get(steps - 1) {
-        Some(frame) => frame.class,
-        None => ClassId(0),
-    }
 }
 
 // The method of the class so many classes outwards.

@@ -124,12 +124,8 @@ module _ (p : Program) (captured : ℕ → List CapturedLocal) (round_of : ℕ �
     path = (class_numbered place.here.class, kept_at) ∷ [];
   }
     where
-      steps_out : ℕ → List Frame → ℕ
-      steps_out n [] = n
-      steps_out n (f ∷ fs) = if nat_eq f.class l.owner then n else steps_out (suc n) fs
-
       kept_at : ℕ
-      kept_at = p.captured place.here.class (steps_out 0 (frames place)) l.variable.number
+      kept_at = p.captured place.here.class l.owner l.variable.number
 
   abbrev pub local_captures : Place → ℕ → ℕ → List CapturedLocal → List CoreCapture
   local_captures place c field [] = []

@@ -1,7 +1,7 @@
 -- What bodies know of all classes: what these declare, with what no source writes of them. Fields that no name finds
 -- stand first in a class: the one with the instance round it (JLS 8.1.3), those with captured locals, in order of
 -- their declarations, and an enum's two.
-use Rattle.std.specs.Prelude.{ℕ, suc, ◌+◌, Bool, true, false, ◌&&◌, List, [], ◌∷◌, ◌++◌, length, drop, map, Option, Some, None, slice_get, nat_eq, unwrap_or, if◌then◌else◌}
+use Rattle.std.specs.Prelude.{ℕ, suc, ◌+◌, Bool, true, false, ◌&&◌, List, [], ◌∷◌, ◌++◌, length, drop, map, Option, Some, None, nat_eq, if◌then◌else◌}
 use Rattle.std.specs.List.{position}
 use Rattle.je_base.specs.declared.span.NameId.{NameId}
 use Rattle.je_core.specs.declared.program.Access.TheVariants as access
@@ -11,6 +11,7 @@ use Rattle.je_scopes.specs.SourceTypes.{SourceType}
 use Rattle.source_types.specs.Heads.{ClassHead}
 use Rattle.declarations.specs.Declarations.{DeclaredClass, DeclaredField, is_enum_sort}
 use Rattle.header_typing.specs.Supers.{own_type}
+use Rattle.name_typing.specs.Fields.{fields_of}
 use Rattle.name_typing.specs.Instances.{is_instance}
 use Rattle.name_typing.specs.Program.{LocalVariable, Program}
 use Rattle.class_heads.specs.Headers.{class_heads}
@@ -98,17 +99,15 @@ module _ (source : Source) where
 
   -- ---- the program, without constants
 
-  abbrev pub owner_of : List ℕ → ℕ → ℕ
-  owner_of round n = unwrap_or (slice_get (0 ∷ round) n) 0
+  abbrev pub place_or : ℕ → Option ℕ → ℕ → ℕ
+  place_or past None first = past
+  place_or past (Some n) first = first + n
 
-  -- the field with the value of a local; where that isn't known, it is past all fields
+  -- the field with the value of a local of a body of a class; where that isn't known, it is past all fields
   abbrev pub captured_place : (ℕ → List CapturedLocal) → ℕ → ℕ → ℕ → ℕ
   captured_place captured c owner local =
-      outer_count c + unwrap_or (position (is_of owner local) (captured c)) (length (fields_of (slice_get classes c)))
-    where
-      fields_of : Option DeclaredClass → List DeclaredField
-      fields_of None = []
-      fields_of (Some d) = d.fields
+      place_or (length (fields_of (with_hidden captured 0 classes) c)) (position (is_of owner local) (captured c))
+      (outer_count c)
 
   unfoldable pub plain_program : (ℕ → List CapturedLocal) → Program
   plain_program captured = record {
@@ -117,5 +116,5 @@ module _ (source : Source) where
     classes = with_hidden captured 0 classes;
     constants = λ m. None;
     outer = λ c. 0;
-    captured = λ c steps local. captured_place captured c (owner_of (site_at source.sites c).spot.round steps) local;
+    captured = captured_place captured;
   }

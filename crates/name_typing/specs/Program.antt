@@ -15,8 +15,8 @@ pub data Constant : Type 0 where
   text_constant : List ℕ → Constant
 
 -- The classes: where they are written, their headers, and what they declare. `constants` has the value of each field that is a
--- constant variable. `outer` is the place of the field in which an instance of a class keeps the one round it,
--- and `captured` that of the field with the value of a local of the body so many classes outwards, by the local's number.
+-- constant variable. `outer` is the place of the field in which an instance of a class keeps the one round it, and
+-- `captured` that of the field with the value of a local of a body of another class, by that class and the local's number.
 pub record Program : Type 0 where
   pub source : Source
   pub heads : List ClassHead

@@ -61,8 +61,13 @@ variable_named p place x = outwards p 0 x (frames place)
 abbrev pub typed_local : Program → LocalVariable → Span → TypedNode
 typed_local p v at = record { node = node (Local v.number) (erased p.heads v.type) at at; type = v.type }
 
+abbrev pub class_of_frame : List Frame → ℕ → ℕ
+class_of_frame [] n = 0
+class_of_frame (f ∷ fs) zero = f.class
+class_of_frame (f ∷ fs) (suc n) = class_of_frame fs n
+
 abbrev pub captured_place : Program → Place → ℕ → LocalVariable → ℕ
-captured_place p place n v = p.captured place.here.class n v.number
+captured_place p place n v = p.captured place.here.class (class_of_frame (frames place) n) v.number
 
 -- the value of a local of an outer body stands in a field of `this`
 abbrev pub typed_captured : Program → Place → ℕ → LocalVariable → Span → TypedNode
@@ -73,11 +78,6 @@ typed_captured p place n v at = record {
 
 abbrev pub field_form : Program → Place → ℕ → Member → Bool → Span → CoreForm
 field_form p place n m is_static at = if is_static then Static no_core m.class m.at else Field (instance_node p place n at) m.class m.at
-
-abbrev pub class_of_frame : List Frame → ℕ → ℕ
-class_of_frame [] n = 0
-class_of_frame (f ∷ fs) zero = f.class
-class_of_frame (f ∷ fs) (suc n) = class_of_frame fs n
 
 abbrev pub typed_field : Program → Place → ℕ → Member → DeclaredField → Span → TypedNode
 typed_field p place n m f at = record {

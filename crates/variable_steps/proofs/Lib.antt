@@ -1,4 +1,3 @@
 pub mod Captured
-pub mod Frames
 pub mod Readings
 pub mod Standing

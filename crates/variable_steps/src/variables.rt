@@ -7,7 +7,7 @@ ghost use Rattle.je_typing.specs.Answers.{IsFault};
 ghost use Rattle.je_typing.specs.Judged.{gives};
 ghost use Rattle.name_typing.specs.Instances.{has_instance as the_has_instance};
 ghost use Rattle.name_typing.specs.Program.{frames};
-ghost use Rattle.name_typing.specs.Variables.{a_field, a_local, assigned_name as the_assigned_name, class_of_frame, field_form, is_early as the_is_early, is_forward as the_is_forward, simple_name as the_simple_name, typed_captured as the_typed_captured, typed_field as the_typed_field, typed_local as the_typed_local, updated_name as the_updated_name, value_of as the_value_of, variable_named as the_variable_named, variable_node as the_variable_node};
+ghost use Rattle.name_typing.specs.Variables.{a_field, a_local, assigned_name as the_assigned_name, field_form, is_early as the_is_early, is_forward as the_is_forward, simple_name as the_simple_name, typed_captured as the_typed_captured, typed_field as the_typed_field, typed_local as the_typed_local, updated_name as the_updated_name, value_of as the_value_of, variable_named as the_variable_named, variable_node as the_variable_node};
 ghost use Rattle.typed_nodes.specs.Seen.{seen};
 ghost use Rattle.body_places.specs.Places.{initializer_seen, local_seen, place_seen};
 ghost use Rattle.body_places.specs.Selected.{selected_seen};
@@ -18,7 +18,7 @@ ghost use Rattle.variable_steps.specs.way.Named.{IsSmall, updated as the_updated
 use crate::finding::{Variable, variable_named};
 use crate::values::constant_or;
 use body_places::{
-    Initializer, LocalVariable, Place, Program, Selected, captured_of, constant_of, has_instance,
+    Initializer, LocalVariable, Place, Program, Selected, captured_of, class_outwards, constant_of, has_instance,
     instance_node, need_field, this_node, uses_for,
 };
 use declarations::FieldDecl;
@@ -68,7 +68,8 @@ fn typed_captured(
         at,
     };
     let class = place.here.class;
-    let field = captured_of(program.captured, class, outwards, local.number);
+    let owner = class_outwards(place, outwards);
+    let field = captured_of(program, class, owner, local.number);
     let ty = copied(program.source.alloc, &local.ty)?;
     let node = make_field(
         program.source.alloc,
@@ -98,19 +99,6 @@ fn local_node(
     }
     check(TypeRule::NotFinalCapture, at, local.is_final)?;
     Ok(typed_captured(program, place, outwards, local, at)?)
-}
-
-// The class so many classes outwards.
-fn class_outwards(place: Place, outwards: usize) -> ClassId
-    ensures { result.0 ≡ class_of_frame (frames (place_seen place.entry)) outwards }
-{
-    if outwards == 0 {
-        return place.here.class;
-    }
-    match place.round.get(outwards - 1) {
-        Some(frame) => frame.class,
-        None => ClassId(0),
-    }
 }
 
 fn field_expr(

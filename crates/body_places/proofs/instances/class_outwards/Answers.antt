@@ -1,8 +1,8 @@
 use Rattle.std.proofs.Common.{◌-◌, length, Some, None, refl}
 use Rattle.std.proofs.lemmas.Option.{slice_get_past, slice_get_read}
 use Rattle.body_places.specs.Places.{frame_seen}
-use Rattle.variable_steps.proofs.Frames.{class_further}
-use Rattle.variable_steps.proofs.variables.class_outwards.Goals as goal
+use Rattle.body_places.proofs.Frames.{class_further}
+use Rattle.body_places.proofs.instances.class_outwards.Goals as goal
 
 pub returns-in-Some : goal.returns-in-Some
 returns-in-Some c = class_further (frame_seen c.args.place.here.now) c.args.place.round.now c.args.outwards (Some c.in-Some.frame.now) c.if-outwards-eq0.false
