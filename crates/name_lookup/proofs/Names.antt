@@ -78,29 +78,23 @@ parts_name p parts (a_class c) otherwise n = refl
 parts_name p parts (a_variable c at) otherwise n = refl
 parts_name p parts unclear otherwise n = refl
 
+pub whole_means : (p : Source) (parts : List Identifier) (look otherwise : Look) → look ≡ nothing → found (library_class p.texts parts) ≡ or_full_name p parts look otherwise
+whole_means p parts look otherwise n = ap (λ (a : Look). or_full_name p parts a otherwise) (sym n)
+
+pub whole_names : (p : Source) (parts : List Identifier) (look : Look) (otherwise : List ℕ) → look ≡ nothing → class_found (found (library_class p.texts parts)) ≡ or_whole p parts look otherwise
+whole_names p parts look otherwise n = ap (λ (a : Look). or_whole p parts a otherwise) (sym n)
+
 -- ---- a name by its first part
 
 module _ (p : Source) (known : Known) (c : ℕ) (part : Part) (i : Identifier) (is parts : List Identifier) (parted : parts ≡ i ∷ is) (look : Look) (e : look ≡ in_scope p known c part i.name) where
-  -- the first part means nothing
-  pub means_whole : look ≡ nothing → found (library_class p.texts parts) ≡ meaning p known c part parts
-  means_whole n = ap (λ (ps : List Identifier). found (library_class p.texts ps)) parted
-      ∙ sym (ap (λ (a : Look). or_full_name p (i ∷ is) a (qualified p known (in_scope p known c part i.name) is)) (sym e ∙ n))
+  pub means_behind : or_full_name p parts look (qualified p known look is) ≡ meaning p known c part parts
+  means_behind = ap (λ (ps : List Identifier). or_full_name p ps look (qualified p known look is)) parted
+      ∙ ap (λ (a : Look). or_full_name p (i ∷ is) a (qualified p known a is)) e
       ∙ ap (λ (ps : List Identifier). meaning p known c part ps) (sym parted)
 
-  pub names_whole : look ≡ nothing → class_found (found (library_class p.texts parts)) ≡ named p known c part parts
-  names_whole n = ap (λ (ps : List Identifier). class_found (found (library_class p.texts ps))) parted
-      ∙ sym (ap (λ (a : Look). or_whole p (i ∷ is) a (named_on p known (in_scope p known c part i.name) is)) (sym e ∙ n))
-      ∙ ap (λ (ps : List Identifier). named p known c part ps) (sym parted)
-
-  -- or something
-  pub means_parts : (look ≡ nothing → ⊥) → qualified p known look is ≡ meaning p known c part parts
-  means_parts n = ap (λ (a : Look). qualified p known a is) e
-      ∙ parts_mean p (i ∷ is) (in_scope p known c part i.name) (qualified p known (in_scope p known c part i.name) is) (λ q. n (e ∙ q))
-      ∙ ap (λ (ps : List Identifier). meaning p known c part ps) (sym parted)
-
-  pub names_parts : (look ≡ nothing → ⊥) → named_on p known look is ≡ named p known c part parts
-  names_parts n = ap (λ (a : Look). named_on p known a is) e
-      ∙ parts_name p (i ∷ is) (in_scope p known c part i.name) (named_on p known (in_scope p known c part i.name) is) (λ q. n (e ∙ q))
+  pub names_behind : or_whole p parts look (named_on p known look is) ≡ named p known c part parts
+  names_behind = ap (λ (ps : List Identifier). or_whole p ps look (named_on p known look is)) parted
+      ∙ ap (λ (a : Look). or_whole p (i ∷ is) a (named_on p known a is)) e
       ∙ ap (λ (ps : List Identifier). named p known c part ps) (sym parted)
 
 -- ---- headers
