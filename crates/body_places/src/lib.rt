@@ -14,7 +14,9 @@ mod program;
 mod tables;
 
 pub use fields::{Selected, field_in, found_field, need_field, uses_for};
-pub use instances::{class_outwards, has_instance, instance_node, is_instance, outer_this, this, this_node};
+pub use instances::{
+    class_outwards, has_instance, instance_node, is_instance, outer_this, this, this_node,
+};
 pub use kept::captured_of;
 pub use place::{Frame, Initializer, LocalVariable, Place};
 pub use program::Program;

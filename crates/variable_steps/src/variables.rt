@@ -18,8 +18,8 @@ ghost use Rattle.variable_steps.specs.way.Named.{IsSmall, updated as the_updated
 use crate::finding::{Variable, variable_named};
 use crate::values::constant_or;
 use body_places::{
-    Initializer, LocalVariable, Place, Program, Selected, captured_of, class_outwards, constant_of, has_instance,
-    instance_node, need_field, this_node, uses_for,
+    Initializer, LocalVariable, Place, Program, Selected, captured_of, class_outwards, constant_of,
+    has_instance, instance_node, need_field, this_node, uses_for,
 };
 use declarations::FieldDecl;
 use field_lookup::{field_at, type_seen};
@@ -33,11 +33,7 @@ use source_subtypes::{copied, erased};
 use typed_nodes::TypedExpr;
 
 /// A local of the body itself, at a place of its text.
-pub fn typed_local(
-    program: &Program,
-    local: &LocalVariable,
-    at: Span,
-) -> Result<TypedExpr, Memory>
+pub fn typed_local(program: &Program, local: &LocalVariable, at: Span) -> Result<TypedExpr, Memory>
     ensures { IfOk result (λ t. seen t ≡
         the_typed_local (program_seen program.now) (local_seen local.now) at) }
 {

@@ -10,5 +10,6 @@ mod walk;
 
 pub use arguments::bounded;
 pub use walk::{
-    Surroundings, is_in_limit, judge_declared, judge_formal, judge_optional_type, judge_type, meaning,
+    Surroundings, is_in_limit, judge_declared, judge_formal, judge_optional_type, judge_type,
+    meaning,
 };
