@@ -1,26 +1,22 @@
 -- Captured locals (JLS 8.1.3), and what a new object gets from round its class (JLS 8.8.7.1, 15.9.2). A class
 -- captures each local from outside it that a name in its body means and that is no constant, and each one that a
 -- class inside it captures, or one of which its body makes objects, or one directly above it.
-use Rattle.std.specs.Prelude.{ℕ, zero, suc, Bool, true, false, not, ◌&&◌, ◌||◌, List, [], ◌∷◌, ◌++◌, length, map, filter, flat_map, Option, Some, None, is_none, nat_eq, if◌then◌else◌}
+use Rattle.std.specs.Prelude.{ℕ, zero, suc, Bool, true, false, not, ◌&&◌, ◌||◌, List, [], ◌∷◌, ◌++◌, length, map, filter, flat_map, Option, Some, None, nat_eq, if◌then◌else◌}
 use Rattle.std.specs.List.{list_any}
 use Rattle.je_core.specs.declared.types.ClassId.{ClassId}
 use Rattle.je_core.specs.Core.{CoreCapture}
 use Rattle.je_scopes.specs.Faults.{below}
 use Rattle.je_scopes.specs.Headers.{is_guest, is_interface_sort, site_at, within}
-use Rattle.je_scopes.specs.Settled.{parts_of}
 use Rattle.je_scopes.specs.SourceTypes.{SourceType, of_class}
 use Rattle.source_types.specs.Erasure.{class_numbered}
 use Rattle.source_types.specs.Heads.{supers_of}
 use Rattle.header_typing.specs.Supers.{class_in}
 use Rattle.name_typing.specs.Program.{Frame, Place, Program, frames}
-use Rattle.name_typing.specs.Variables.{Variable, a_local, class_of_frame, variable_named}
-use Rattle.body_types.specs.BodyTypes.{look_at}
 use Rattle.call_typing.specs.Creations.{is_inner, is_round}
-use Rattle.expression_typing.specs.Expressions.{class_of_look}
-use Rattle.expression_typing.specs.Mentions.{Mention, made, named}
-use Rattle.statement_typing.specs.Bodies.{Met, mentioned}
-use Rattle.class_typing.specs.Places.{place_met, round, same_number}
-use Rattle.class_typing.specs.Programs.{CapturedLocal, is_of}
+use Rattle.statement_typing.specs.Bodies.{Met, makes}
+use Rattle.statement_typing.specs.Bodies as met_in
+use Rattle.class_typing.specs.Places.{same_number}
+use Rattle.class_typing.specs.Programs.{CapturedLocal}
 
 abbrev pub reversed : {A : Type 0} → List A → List A
 reversed [] = []
@@ -30,37 +26,17 @@ abbrev pub listed : {A : Type 0} → Option A → List A
 listed None = []
 listed (Some a) = a ∷ []
 
--- `met` is all that was met in bodies
-module _ (p : Program) (met : List Met) where
+-- `met` is all that was met in bodies, and `round` gives the bodies round each class
+module _ (p : Program) (met : List Met) (round : ℕ → List Frame) where
   -- ---- what the body of a class says
 
-  abbrev pub is_in : ℕ → Met → Bool
-  is_in c m = nat_eq (place_met m).here.class c
+  abbrev pub is_capture : ℕ → ℕ → ℕ → Met → Bool
+  is_capture c owner local (met_in.captures within of n) = nat_eq within c && nat_eq of owner && nat_eq n local
+  is_capture c owner local m = false
 
-  -- a local of a body further out, by the class of that body
-  abbrev pub local_further : Place → Variable → List CapturedLocal
-  local_further place (a_local (suc n) v) =
-      if is_none v.constant then record { owner = class_of_frame (frames place) (suc n); variable = v } ∷ [] else []
-  local_further place v = []
-
-  abbrev pub local_mentioned : Place → Mention → List CapturedLocal
-  local_mentioned place (named id) = local_further place (variable_named p place id.name)
-  local_mentioned place m = []
-
-  abbrev pub locals_met : Met → List CapturedLocal
-  locals_met (mentioned s m) = local_mentioned s.place m
-  locals_met m = []
-
-  abbrev pub classes_mentioned : Place → Mention → List ℕ
-  classes_mentioned place (made t) = listed (class_of_look (look_at p place.here (parts_of t)))
-  classes_mentioned place m = []
-
-  abbrev pub classes_made : Met → List ℕ
-  classes_made (mentioned s m) = classes_mentioned s.place m
-  classes_made m = []
-
-  abbrev pub met_in : ℕ → List Met
-  met_in c = filter (is_in c) met
+  abbrev pub class_made : ℕ → Met → List ℕ
+  class_made c (makes within d) = if nat_eq within c then d ∷ [] else []
+  class_made c m = []
 
   abbrev pub is_directly_in : ℕ → ℕ → Bool
   is_directly_in c d = same_number c (within (site_at p.source.sites d))
@@ -72,7 +48,7 @@ module _ (p : Program) (met : List Met) where
   abbrev pub classes_near : ℕ → List ℕ
   classes_near c =
       filter (is_directly_in c) (below (length p.source.sites))
-      ++ flat_map classes_made (met_in c)
+      ++ flat_map (class_made c) met
       ++ flat_map class_of_type (supers_of p.heads c)
 
   -- ---- JLS 8.1.3
@@ -85,7 +61,7 @@ module _ (p : Program) (met : List Met) where
   captures_within zero owner local c = false
   captures_within (suc n) owner local c =
       is_outside c owner
-      && (list_any (is_of owner local) (flat_map locals_met (met_in c))
+      && (list_any (is_capture c owner local) met
       || list_any (captures_within n owner local) (classes_near c))
 
   -- the locals in scope where a class stands, in order of their declarations
@@ -93,7 +69,7 @@ module _ (p : Program) (met : List Met) where
   locals_of_frame f = map (λ v. record { owner = f.class; variable = v }) (reversed f.locals)
 
   abbrev pub locals_round : ℕ → List CapturedLocal
-  locals_round c = flat_map locals_of_frame (reversed (round p met c))
+  locals_round c = flat_map locals_of_frame (reversed (round c))
 
   abbrev pub is_captured : ℕ → CapturedLocal → Bool
   is_captured c l = captures_within (length p.source.sites) l.owner l.variable.number c

@@ -1,6 +1,6 @@
 -- Which fields are constant variables (JLS 4.12.4, 15.28), and which final fields are blank (JLS 8.3.1.2). A field
 -- whose initializer leads back to itself is no constant.
-use Rattle.std.specs.Prelude.{ℕ, zero, suc, Bool, true, false, List, [], ◌∷◌, ◌++◌, length, map, Option, Some, None, slice_get, unwrap_or, if◌then◌else◌}
+use Rattle.std.specs.Prelude.{ℕ, zero, suc, ◌-◌, Bool, true, false, List, [], ◌∷◌, ◌++◌, length, map, Option, Some, None, slice_get, nat_lt, unwrap_or, if◌then◌else◌}
 use Rattle.std.specs.List.{sum_by}
 use Rattle.je_core.specs.Core.{Core, CoreClass, CoreField, CoreForm, Const, Text, form_of}
 use Rattle.je_ast.specs.declared.name.Identifier.{Identifier}
@@ -9,6 +9,7 @@ use Rattle.je_ast.specs.Trees as tree
 use Rattle.je_classes.specs.Members.{Member}
 use Rattle.je_scopes.specs.Headers.{constants_in, is_guest, members_in, site_at}
 use Rattle.je_scopes.specs.Sites.{Written, context_of}
+use Rattle.je_scopes.specs.Source.{Source}
 use Rattle.declarations.specs.Declarations.{DeclaredClass, DeclaredField}
 use Rattle.je_typing.specs.Judged.{Judged, faulty, gives}
 use Rattle.je_typing.specs.Typed.{TypedNode}
@@ -95,7 +96,7 @@ in_initializer is_static c at round = record {
   given = [];
 }
 
-module _ (p : Program) (hidden : ℕ → ℕ) (round : ℕ → List Frame) where
+module _ (p : Program) (hidden : ℕ → ℕ) where
   abbrev pub hidden_values : ℕ → List FieldValue
   hidden_values zero = []
   hidden_values (suc n) = unwritten ∷ hidden_values n
@@ -114,6 +115,7 @@ module _ (p : Program) (hidden : ℕ → ℕ) (round : ℕ → List Frame) where
   unfoldable pub is_blank : Member → Bool
   is_blank m = is_without (field_value m)
 
+module _ (p : Program) (hidden : ℕ → ℕ) (round : ℕ → List Frame) where
   abbrev pub scope_of : DeclaredField → Member → Scope
   scope_of f m = in_initializer f.is_static m.class.0 m.at (round m.class.0)
 
@@ -122,16 +124,28 @@ module _ (p : Program) (hidden : ℕ → ℕ) (round : ℕ → List Frame) where
       if_final f (value (expression (record p { constants = known }) nothing_known (scope_of f m) (initial f.ty) e))
   constant_by known m f v = None
 
-  -- where so many fields on the way to it are
-  abbrev pub constant_within : ℕ → Member → Option Constant
-  constant_within zero m = None
-  constant_within (suc n) m =
-      if is_guest (site_at p.source.sites m.class.0).written
-      then constant_by (constant_within n) m (field_at p.classes m) (field_value m)
-      else library_constant p.source.texts m
+  abbrev pub constant_next : (Member → Option Constant) → Member → Option Constant
+  constant_next known m = constant_by known m (field_at p.classes m) (field_value p hidden m)
+
+  -- of the fields of some classes, where so many fields on the way to it are; the others' are known
+  abbrev pub constants_within : ℕ → (ℕ → Bool) → (Member → Option Constant) → Member → Option Constant
+  constants_within zero is_asked known m = known m
+  constants_within (suc n) is_asked known m =
+      if is_asked m.class.0 then constant_next (constants_within n is_asked known) m else known m
 
   abbrev pub field_count : DeclaredClass → ℕ
   field_count d = length d.fields
 
-  unfoldable pub constant : Member → Option Constant
-  constant m = constant_within (suc (sum_by field_count p.classes)) m
+  unfoldable pub constants_of : (ℕ → Bool) → (Member → Option Constant) → Member → Option Constant
+  constants_of is_asked known = constants_within (suc (sum_by field_count p.classes)) is_asked known
+
+-- ---- before the bodies are walked: those of the library, where they are no program's
+
+unfoldable pub library_constants : Source → Member → Option Constant
+library_constants source m =
+    if is_guest (site_at source.sites m.class.0).written then None else library_constant source.texts m
+
+-- where a class has so many fields more in front
+abbrev pub constants_shifted : (ℕ → ℕ) → (Member → Option Constant) → Member → Option Constant
+constants_shifted more known m =
+    if nat_lt m.at (more m.class.0) then None else known (record m { at = m.at - more m.class.0 })

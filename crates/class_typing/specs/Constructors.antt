@@ -1,6 +1,6 @@
 -- Constructors (JLS 8.8): the call of another one at the head, the default one, that of an anonymous class, and those
 -- that lead back to themselves.
-use Rattle.std.specs.Prelude.{ℕ, zero, suc, Bool, true, false, ◌||◌, List, [], ◌∷◌, length, map, Option, Some, None, slice_get, nat_eq}
+use Rattle.std.specs.Prelude.{ℕ, zero, suc, Bool, true, false, ◌||◌, List, [], ◌∷◌, length, map, flat_map, Option, Some, None, slice_get, nat_eq}
 use Rattle.std.specs.List.{find}
 use Rattle.je_base.specs.declared.span.NameId.{NameId}
 use Rattle.je_base.specs.declared.span.Span.{Span}
@@ -26,8 +26,8 @@ use Rattle.call_typing.specs.Creations.{implicit_constructor_call, made_of, own_
 use Rattle.call_typing.specs.Overloads.{Candidate}
 use Rattle.expression_typing.specs.Expressions.{Known, anonymous_type, values}
 use Rattle.expression_typing.specs.FinalVariables.{Scope}
-use Rattle.expression_typing.specs.Mentions.{Mention, all_mentions, made_with_body}
-use Rattle.statement_typing.specs.Bodies.{Met, in_frame, mentioned, performed}
+use Rattle.expression_typing.specs.Mentions.{all_mentions}
+use Rattle.statement_typing.specs.Bodies.{Met, in_frame, met_by, performed}
 
 -- ---- the call at the head of a constructor (JLS 8.8.7.1), in whose arguments there is no object yet
 
@@ -35,9 +35,9 @@ abbrev pub in_arguments : Scope → Scope
 in_arguments s = in_frame (record (s.place.here) { context = constructor_arguments }) s
 
 -- what is met in its arguments
-abbrev pub met_in_head : Scope → ConstructorInvocation → List Met
-met_in_head s tree.implicit = []
-met_in_head s (tree.explicit is_super word es) = map (mentioned (in_arguments s)) (all_mentions es)
+abbrev pub met_in_head : Program → Scope → ConstructorInvocation → List Met
+met_in_head p s tree.implicit = []
+met_in_head p s (tree.explicit is_super word es) = flat_map (met_by p (in_arguments s)) (all_mentions es)
 
 abbrev pub constructor_call : Program → Bool → Place → Span → List TypedNode → Judged TypedNode
 constructor_call p true place word args = superclass_constructor_call p place word word args
@@ -70,15 +70,10 @@ module _ (p : Program) (k : Known) where
   -- ---- the constructor of an anonymous class (JLS 15.9.5.1): its parameters are those of the superclass's
   -- constructor that was chosen behind `new`, to which it hands them on
 
-  abbrev pub chosen_for : Place → Span → TypeName → List TypedNode → Judged Candidate
-  chosen_for place word t args = constructor_for p place.here.class (made_of p (anonymous_type p word t)) word args
-
-  abbrev pub handed_to : Scope → Mention → Judged (List Candidate)
-  handed_to s (made_with_body word t es) = do
+  abbrev pub chosen_for : Scope → Span → TypeName → Expressions → Judged Candidate
+  chosen_for s word t es = do
     args ← values p k s es
-    m ← chosen_for s.place word t args
-    gives (m ∷ [])
-  handed_to s m = gives []
+    constructor_for p s.place.here.class (made_of p (anonymous_type p word t)) word args
 
 -- the erased types of a constructor's parameters, as its class declares them
 abbrev pub parameters_in : Program → Option DeclaredMethod → List Ty

@@ -2,40 +2,46 @@
 -- order, and then the bodies of all classes in that order, those of a class inside another one behind the whole of
 -- that one (JLS 8, 9). Bodies are walked twice: what each class captures is known when all bodies were met, and then
 -- their code is.
-use Rattle.std.specs.Prelude.{ℕ, zero, suc, ◌-◌, Bool, false, List, [], ◌∷◌, ◌++◌, length, Option, Some, None, is_some}
+use Rattle.std.specs.Prelude.{ℕ, zero, suc, ◌-◌, Bool, false, ◌&&◌, List, [], ◌∷◌, ◌++◌, length, Option, Some, None, is_none, is_some}
 use Rattle.std.specs.List.{position}
 use Rattle.je_base.specs.declared.span.NameId.{NameId}
 use Rattle.je_core.specs.Core.{CoreClass, CoreProgram}
-use Rattle.je_scopes.specs.Headers.{same_name}
+use Rattle.je_classes.specs.Members.{Member}
+use Rattle.je_scopes.specs.Headers.{is_guest, same_name, site_at}
 use Rattle.je_scopes.specs.Source.{Source}
 use Rattle.declarations.specs.Declarations.{DeclaredField, type_at}
 use Rattle.je_typing.specs.Judged.{Judged, gives, ◌>>=◌, ◌>>◌}
 use Rattle.library_classes.specs.Library.{all_due}
 use Rattle.name_typing.specs.Fields.{fields_of, member}
-use Rattle.name_typing.specs.Program.{Frame, Program}
+use Rattle.name_typing.specs.Program.{Constant, Frame, Program}
 use Rattle.expression_typing.specs.Expressions.{Known}
 use Rattle.signature_typing.specs.Signatures.{Setting, signatures}
 use Rattle.statement_typing.specs.Bodies.{Met}
 use Rattle.class_typing.specs.Captures.{captured_locals, captures}
 use Rattle.class_typing.specs.Classes.{core_class}
-use Rattle.class_typing.specs.ConstantFields.{constant, is_blank}
+use Rattle.class_typing.specs.ConstantFields.{constants_of, constants_shifted, is_blank, library_constants}
 use Rattle.class_typing.specs.Members.{MembersDone, class_members}
-use Rattle.class_typing.specs.Places.{round}
+use Rattle.class_typing.specs.Places.{in_body, is_placed, round_behind, round_class}
 use Rattle.class_typing.specs.Programs.{CapturedLocal, classes, hidden_fields, library_count, number, plain_program}
 use Rattle.class_typing.specs.Texts.{texts}
 
 -- ---- what bodies are judged by
 
--- the program, what is known beside it, and the bodies round each class
+-- the bodies round each class, and the fields that are constant variables, as far as they are told
+pub record Told : Type 0 where
+  pub round : ℕ → List Frame
+  pub constants : Member → Option Constant
+
+-- the program, and what is known beside it
 pub record World : Type 0 where
   pub program : Program
   pub known : Known
-  pub round : ℕ → List Frame
 
--- what the members of classes come to, class by class, and what was met in all of them
+-- what the members of classes come to, class by class, what was met in all of them, and what is told behind them
 pub record BodiesDone : Type 0 where
   pub classes : List MembersDone
   pub met : List Met
+  pub told : Told
 
 abbrev pub one_more : MembersDone → BodiesDone → BodiesDone
 one_more d rest = record rest { classes = d ∷ rest.classes }
@@ -44,21 +50,38 @@ module _ (source : Source) where
   abbrev pub hidden_count : (ℕ → List CapturedLocal) → ℕ → ℕ
   hidden_count captured c = length (hidden_fields source captured c)
 
-  -- by what each class captures, and what was met so far
-  abbrev pub world : (ℕ → List CapturedLocal) → List Met → World
-  world captured met =
-      let p = plain_program source captured in
-      record {
-        program = record p { constants = constant p (hidden_count captured) (round p met) };
-        known = record {
-          captures = captures p captured (round p met);
-          is_blank = is_blank p (hidden_count captured) (round p met);
-        };
-        round = round p met;
-      }
-
   abbrev pub nothing_captured : ℕ → List CapturedLocal
   nothing_captured c = []
+
+  -- before it is known what classes capture
+  abbrev pub first_program : Program
+  first_program = plain_program source nothing_captured
+
+  abbrev pub with_constants : Program → (Member → Option Constant) → Program
+  with_constants p constants = record p { constants = constants }
+
+  -- ---- where classes stand, and their constants: of one that stands in a body they are told when that body was walked
+
+  abbrev pub constants_told : (ℕ → Bool) → (ℕ → List Frame) → (Member → Option Constant) → Member → Option Constant
+  constants_told is_asked round known =
+      constants_of first_program (hidden_count nothing_captured) round is_asked known
+
+  -- a class of the program that stands in no body
+  abbrev pub is_outside_bodies : ℕ → Bool
+  is_outside_bodies c = is_guest (site_at source.sites c).written && is_none (in_body source.sites c)
+
+  abbrev pub told_first : Told
+  told_first = record {
+    round = round_class source.sites [];
+    constants = constants_told is_outside_bodies (round_class source.sites []) (library_constants source);
+  }
+
+  abbrev pub told_behind : Told → List Met → Told
+  told_behind told met = record {
+    round = round_behind source.sites met told.round;
+    constants =
+        constants_told (is_placed source.sites met) (round_behind source.sites met told.round) told.constants;
+  }
 
   -- ---- headers and signatures (JLS 8, 9), where no locals round a class are known
 
@@ -84,22 +107,65 @@ module _ (source : Source) where
 
   -- ---- bodies
 
-  abbrev pub members_of : World → (ℕ → List CapturedLocal) → List Met → ℕ → Judged MembersDone
-  members_of w captured met c = class_members w.program w.known c (w.round c) met (hidden_count captured c)
-
-  -- of so many classes from one on, behind what was met in those before it
-  abbrev pub bodies_from : (List Met → World) → (ℕ → List CapturedLocal) → ℕ → ℕ → List Met → Judged BodiesDone
-  bodies_from worlds captured c zero met = gives (record { classes = []; met = met })
-  bodies_from worlds captured c (suc n) met = do
-    d ← members_of (worlds met) captured met c
-    rest ← bodies_from worlds captured (suc c) n (met ++ d.met)
-    gives (one_more d rest)
+  abbrev pub members_of : World → (ℕ → List CapturedLocal) → (ℕ → List Frame) → List Met → ℕ → Judged MembersDone
+  members_of w captured round met c = class_members w.program w.known c (round c) met (hidden_count captured c)
 
   abbrev pub guest_count : ℕ
   guest_count = length source.sites - library_count source
 
-  abbrev pub all_bodies : (List Met → World) → (ℕ → List CapturedLocal) → Judged BodiesDone
-  all_bodies worlds captured = bodies_from worlds captured (library_count source) guest_count []
+  -- the first walk, for what is met
+
+  abbrev pub nothing_round : ℕ → List Frame
+  nothing_round c = []
+
+  abbrev pub first_world : Told → World
+  first_world told =
+      let p = with_constants first_program told.constants in
+      record {
+        program = p;
+        known = record {
+          captures = captures p nothing_captured nothing_round;
+          is_blank = is_blank first_program (hidden_count nothing_captured);
+        };
+      }
+
+  -- of so many classes from one on, behind what was met in those before it
+  abbrev pub bodies_from : Told → List Met → ℕ → ℕ → Judged BodiesDone
+  bodies_from told met c zero = gives (record { classes = []; met = met; told = told })
+  bodies_from told met c (suc n) = do
+    d ← members_of (first_world told) nothing_captured told.round met c
+    rest ← bodies_from (told_behind told d.met) (met ++ d.met) (suc c) n
+    gives (one_more d rest)
+
+  abbrev pub first_bodies : Judged BodiesDone
+  first_bodies = bodies_from told_first [] (library_count source) guest_count
+
+  -- the second one, for the code, where it is known what each class captures
+
+  abbrev pub captured_count : (ℕ → List CapturedLocal) → ℕ → ℕ
+  captured_count captured c = length (captured c)
+
+  abbrev pub whole_program : (ℕ → List CapturedLocal) → Told → Program
+  whole_program captured told =
+      with_constants (plain_program source captured) (constants_shifted (captured_count captured) told.constants)
+
+  abbrev pub whole_world : (ℕ → List CapturedLocal) → Told → World
+  whole_world captured told =
+      let p = whole_program captured told in
+      record {
+        program = p;
+        known = record {
+          captures = captures p captured told.round;
+          is_blank = is_blank p (hidden_count captured);
+        };
+      }
+
+  abbrev pub bodies_again : World → (ℕ → List CapturedLocal) → BodiesDone → ℕ → ℕ → Judged (List MembersDone)
+  bodies_again w captured first c zero = gives []
+  bodies_again w captured first c (suc n) = do
+    d ← members_of w captured first.told.round first.met c
+    rest ← bodies_again w captured first (suc c) n
+    gives (d ∷ rest)
 
   -- ---- the core program
 
@@ -110,17 +176,13 @@ module _ (source : Source) where
   abbrev pub core_program : List CoreClass → CoreProgram
   core_program guests = record { classes = all_due (number source) ++ guests; texts = texts guests }
 
-  abbrev pub captured_by : List Met → ℕ → List CapturedLocal
-  captured_by met c = captured_locals (plain_program source nothing_captured) met c
-
-  -- where it is known what was met in all bodies
-  abbrev pub with_captures : (ℕ → List CapturedLocal) → List Met → Judged CoreProgram
-  with_captures captured met = do
-    whole ← all_bodies (λ so_far. world captured met) captured
-    gives (core_program (core_classes ((world captured met).program) captured (library_count source) whole.classes))
+  abbrev pub with_captures : (ℕ → List CapturedLocal) → BodiesDone → Judged CoreProgram
+  with_captures captured first = do
+    classes ← bodies_again (whole_world captured first.told) captured first (library_count source) guest_count
+    gives (core_program (core_classes (whole_program captured first.told) captured (library_count source) classes))
 
   unfoldable pub elaborated : Judged CoreProgram
   elaborated = do
-    signatures (setting ((world nothing_captured []).program))
-    first ← all_bodies (world nothing_captured) nothing_captured
-    with_captures (captured_by first.met) first.met
+    signatures (setting ((first_world told_first).program))
+    first ← first_bodies
+    with_captures (captured_locals first_program first.met first.told.round) first

@@ -38,10 +38,10 @@ use Rattle.statement_steps.specs.Returns.{Returning, a_value, never, no_value}
 use Rattle.expression_typing.specs.ConstantVariables.{variable_constant}
 use Rattle.expression_typing.specs.Expressions.{Known, expression, initial, value}
 use Rattle.expression_typing.specs.FinalVariables.{Scope}
-use Rattle.statement_typing.specs.Bodies.{Done, Met, Progress, block_of, local_of, mentioned, mentioned_in, performed, with_local, with_met, with_number}
+use Rattle.statement_typing.specs.Bodies.{Done, Met, Progress, block_of, local_of, met_in_expression, performed, stands_behind_new, with_local, with_met, with_number}
 use Rattle.statement_typing.specs.LocalVariables.{new_name}
 use Rattle.statement_typing.specs.Statements.{statements}
-use Rattle.class_typing.specs.Constructors.{OwnCall, declared_parameters, handed_on, handed_to, head_call, head_code, met_in_head, no_cycle, own_calls, unwritten_constructor, word_of}
+use Rattle.class_typing.specs.Constructors.{OwnCall, chosen_for, declared_parameters, handed_on, head_call, head_code, met_in_head, no_cycle, own_calls, unwritten_constructor, word_of}
 use Rattle.class_typing.specs.Enums.{constants_made, enum_code}
 use Rattle.class_typing.specs.Places.{member_frame, stands_at}
 
@@ -147,13 +147,13 @@ module _ (p : Program) (k : Known) (c : ℕ) (round : List Frame) where
   field_code f at id e from n true (Some constant) =
       record nothing {
         constants = Some (constant_node f (written.span_of e) from.node constant) ∷ [];
-        met = mentioned_in (field_scope f.is_static at) e;
+        met = met_in_expression p (field_scope f.is_static at) e;
       }
   field_code f at id e from n is_static constant =
       record nothing {
         constants = None ∷ [];
         initializers = field_initializer f at id.span n ∷ [];
-        met = mentioned_in (field_scope f.is_static at) e;
+        met = met_in_expression p (field_scope f.is_static at) e;
       }
 
   abbrev pub initialized : ℕ → Identifier → Expression → Option DeclaredField → Judged MembersDone
@@ -239,7 +239,7 @@ module _ (p : Program) (k : Known) (c : ℕ) (round : List Frame) where
   constructor at id fs call opening ss closing (Some m) = do
     b ← parameters (scope_in instance None true) nothing_met fs m.parameters
     calls ← head_call p k b.scope class_span call
-    d ← statements p k no_value no_targets b.scope (with_met (met_in_head b.scope call) b.progress) ss
+    d ← statements p k no_value no_targets b.scope (with_met (met_in_head p b.scope call) b.progress) ss
     gives (constructor_code at id m call calls opening closing d)
 
   -- ---- initializers (JLS 8.6, 8.7)
@@ -301,9 +301,8 @@ module _ (p : Program) (k : Known) (c : ℕ) (round : List Frame) where
     gives default_code
 
   -- that of an anonymous class (JLS 15.9.5.1)
-  abbrev pub anonymous_code : List Candidate → MembersDone
-  anonymous_code [] = nothing
-  anonymous_code (m ∷ ms) = record nothing {
+  abbrev pub anonymous_code : Candidate → MembersDone
+  anonymous_code m = record nothing {
     methods =
         unwritten_constructor (number (codes "new")) (number []) class_span
         (default_flags (access_in (slice_get p.classes c))) (declared_parameters p m)
@@ -312,8 +311,8 @@ module _ (p : Program) (k : Known) (c : ℕ) (round : List Frame) where
   }
 
   abbrev pub anonymous_constructor : Option Met → Judged MembersDone
-  anonymous_constructor (Some (mentioned s m)) = do
-    chosen ← handed_to p k s m
+  anonymous_constructor (Some (stands_behind_new d s word t es)) = do
+    chosen ← chosen_for p k s word t es
     gives (anonymous_code chosen)
   anonymous_constructor m = gives nothing
 
@@ -340,7 +339,7 @@ module _ (p : Program) (k : Known) (c : ℕ) (round : List Frame) where
   unwritten met (declared d) =
       if is_enum_sort site.sort then gives (enum_members (constants_in site.written))
       else if not (is_interface_sort site.sort) && is_without_constructor then default_constructor else gives nothing
-  unwritten met (behind_new word t ms) = anonymous_constructor (find (stands_at p c) met)
+  unwritten met (behind_new word t ms) = anonymous_constructor (find (stands_at c) met)
 
   -- ---- the class, with so many hidden fields
 

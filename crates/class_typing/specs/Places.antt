@@ -1,13 +1,10 @@
 -- Where classes stand: the bodies round each one, by what was met in them (JLS 6.3, 8.1.3, 14.3, 15.9.5).
-use Rattle.std.specs.Prelude.{ℕ, Bool, false, List, [], ◌∷◌, Option, Some, None, nat_eq}
+use Rattle.std.specs.Prelude.{ℕ, Bool, false, List, [], ◌∷◌, Option, Some, None, is_some, nat_eq, if◌then◌else◌}
 use Rattle.std.specs.List.{find}
-use Rattle.je_scopes.specs.Headers.{site_at}
-use Rattle.je_scopes.specs.Sites.{Context}
-use Rattle.name_typing.specs.Program.{Frame, Initializer, LocalVariable, Place, Program, frames}
-use Rattle.expression_typing.specs.Expressions.{anonymous_at}
-use Rattle.expression_typing.specs.Mentions.{Mention, made_with_body}
-use Rattle.statement_typing.specs.Bodies.{Met, declares, mentioned}
-use Rattle.statement_typing.specs.LocalClasses.{class_declared_at}
+use Rattle.je_scopes.specs.Headers.{is_local_sort, site_at}
+use Rattle.je_scopes.specs.Sites.{Context, Site}
+use Rattle.name_typing.specs.Program.{Frame, Initializer, LocalVariable, frames}
+use Rattle.statement_typing.specs.Bodies.{Met, stands, stands_behind_new}
 
 abbrev pub same_number : ℕ → Option ℕ → Bool
 same_number c None = false
@@ -18,34 +15,62 @@ abbrev pub member_frame : ℕ → Context → Option Initializer → List LocalV
 member_frame c context initializer locals =
     record { class = c; locals = locals; local_classes = []; context = context; initializer = initializer }
 
-abbrev pub place_met : Met → Place
-place_met (declares s id) = s.place
-place_met (mentioned s m) = s.place
+-- ---- what was met of a class that stands in a body
 
-module _ (p : Program) where
-  -- the local or anonymous class that stands at what was met
-  abbrev pub class_mentioned : Mention → Option ℕ
-  class_mentioned (made_with_body word t es) = Some (anonymous_at p word)
-  class_mentioned m = None
+abbrev pub class_standing : Met → Option ℕ
+class_standing (stands c s) = Some c
+class_standing (stands_behind_new c s word t es) = Some c
+class_standing m = None
 
-  abbrev pub class_met : Met → Option ℕ
-  class_met (declares s id) = Some (class_declared_at p id)
-  class_met (mentioned s m) = class_mentioned m
+abbrev pub stands_at : ℕ → Met → Bool
+stands_at c m = same_number c (class_standing m)
 
-  abbrev pub stands_at : ℕ → Met → Bool
-  stands_at c m = same_number c (class_met m)
+abbrev pub frames_met : Met → List Frame
+frames_met (stands c s) = frames s.place
+frames_met (stands_behind_new c s word t es) = frames s.place
+frames_met m = []
 
-  abbrev pub frames_if : Option Met → List Frame → List Frame
-  frames_if None otherwise = otherwise
-  frames_if (Some m) otherwise = frames (place_met m)
+module _ (sites : List Site) where
+  -- ---- the class that stands in a body, of a class and those round it: the innermost that does
 
-  -- the bodies round a class, the innermost first, by the classes round it: of a member class the class's own without
-  -- locals
-  abbrev pub frames_round : List Met → ℕ → List ℕ → List Frame
-  frames_round met c [] = []
-  frames_round met c (d ∷ ds) =
-      frames_if (find (stands_at c) met)
-      (member_frame d ((site_at p.source.sites c).spot.context) None [] ∷ frames_round met d ds)
+  abbrev pub is_in_body : ℕ → Bool
+  is_in_body c = is_local_sort (site_at sites c).sort
 
-  unfoldable pub round : List Met → ℕ → List Frame
-  round met c = frames_round met c (site_at p.source.sites c).spot.round
+  abbrev pub innermost_in_body : ℕ → List ℕ → Option ℕ
+  innermost_in_body c [] = if is_in_body c then Some c else None
+  innermost_in_body c (d ∷ ds) = if is_in_body c then Some c else innermost_in_body d ds
+
+  unfoldable pub in_body : ℕ → Option ℕ
+  in_body c = innermost_in_body c (site_at sites c).spot.round
+
+  -- ---- the bodies round a class, by the classes round it: those round the class that stands in a body are given, and
+  -- a member class stands in the class's own, which has no locals
+
+  abbrev pub bodies_round : List Frame → ℕ → List ℕ → List Frame
+  bodies_round given c [] = if is_in_body c then given else []
+  bodies_round given c (d ∷ ds) =
+      if is_in_body c then given
+      else member_frame d ((site_at sites c).spot.context) None [] ∷ bodies_round given d ds
+
+  unfoldable pub round_class : List Frame → ℕ → List Frame
+  round_class given c = bodies_round given c (site_at sites c).spot.round
+
+  -- ---- behind what was met newly
+
+  abbrev pub met_at : List Met → Option ℕ → Option Met
+  met_at met None = None
+  met_at met (Some c) = find (stands_at c) met
+
+  -- what tells where a class stands
+  abbrev pub placed_by : List Met → ℕ → Option Met
+  placed_by met c = met_at met (in_body c)
+
+  abbrev pub is_placed : List Met → ℕ → Bool
+  is_placed met c = is_some (placed_by met c)
+
+  abbrev pub round_if : Option Met → (ℕ → List Frame) → ℕ → List Frame
+  round_if None round c = round c
+  round_if (Some m) round c = round_class (frames_met m) c
+
+  unfoldable pub round_behind : List Met → (ℕ → List Frame) → ℕ → List Frame
+  round_behind met round c = round_if (placed_by met c) round c

@@ -1,28 +1,54 @@
 -- What the walk over a body knows at a place of it, and what it leaves behind: the scope of locals and local classes
 -- there (JLS 6.3, 14.2 to 14.4), all locals of the body so far, and what its expressions mention.
-use Rattle.std.specs.Prelude.{ℕ, Bool, List, [], ◌∷◌, ◌++◌, length, map, Option, if◌then◌else◌}
+use Rattle.std.specs.Prelude.{ℕ, suc, Bool, List, [], ◌∷◌, ◌++◌, length, flat_map, Option, Some, None, is_none, if◌then◌else◌}
 use Rattle.std.specs.List.{list_any}
 use Rattle.je_base.specs.declared.span.NameId.{NameId}
 use Rattle.je_base.specs.declared.span.Span.{Span}
 use Rattle.je_core.specs.declared.program.Local.{Local as LocalOf}
 use Rattle.je_core.specs.Core.{Core, CoreStmt, Block, Do, Empty, core_stmts, stmt}
-use Rattle.je_ast.specs.declared.name.Identifier.{Identifier}
-use Rattle.je_ast.specs.Trees.{Expression}
+use Rattle.je_ast.specs.Trees.{Expression, Expressions}
+use Rattle.je_ast.specs.Types.{TypeName}
 use Rattle.je_scopes.specs.Headers.{no_span, same_name}
+use Rattle.je_scopes.specs.Settled.{parts_of}
 use Rattle.je_scopes.specs.SourceTypes.{SourceType}
 use Rattle.source_types.specs.Erasure.{erased}
 use Rattle.source_types.specs.Heads.{ClassHead}
 use Rattle.library_classes.specs.Numbers.{number_in}
-use Rattle.name_typing.specs.Program.{Constant, Frame, LocalVariable, Program}
+use Rattle.name_typing.specs.Program.{Constant, Frame, LocalVariable, Program, frames}
+use Rattle.name_typing.specs.Variables.{Variable, a_local, class_of_frame, variable_named}
+use Rattle.body_types.specs.BodyTypes.{look_at}
+use Rattle.expression_typing.specs.Expressions.{anonymous_at, class_of_look}
 use Rattle.expression_typing.specs.FinalVariables.{Scope}
-use Rattle.expression_typing.specs.Mentions.{Mention, mentions}
+use Rattle.expression_typing.specs.Mentions.{Mention, made, made_with_body, mentions, named}
 
--- ---- what is met in a body: what an expression mentions, and local classes that are declared, each in its scope;
--- that of a local class has the class itself (JLS 6.3)
+-- ---- what is met in a body: that by which it is told what classes capture (JLS 8.1.3), and where classes stand
 
 pub data Met : Type 0 where
-  mentioned : Scope → Mention → Met
-  declares : Scope → Identifier → Met
+  -- in a class a name means a local of a body of another class, by that class and the local's number; it is no constant
+  captures : ℕ → ℕ → ℕ → Met
+  -- in a class objects of another one are made
+  makes : ℕ → ℕ → Met
+  -- a local class stands in a scope, which has the class itself (JLS 6.3)
+  stands : ℕ → Scope → Met
+  -- a class whose body is behind `new` stands in a scope, with that word, the type, and the arguments
+  stands_behind_new : ℕ → Scope → Span → TypeName → Expressions → Met
+
+-- what a mention in a scope says
+module _ (p : Program) (s : Scope) where
+  abbrev pub local_met : Variable → List Met
+  local_met (a_local (suc n) v) =
+      if is_none v.constant
+      then captures s.place.here.class (class_of_frame (frames s.place) (suc n)) v.number ∷ [] else []
+  local_met v = []
+
+  abbrev pub class_met : Option ℕ → List Met
+  class_met None = []
+  class_met (Some c) = makes s.place.here.class c ∷ []
+
+  abbrev pub met_by : Mention → List Met
+  met_by (named id) = local_met (variable_named p s.place id.name)
+  met_by (made t) = class_met (class_of_look (look_at p s.place.here (parts_of t)))
+  met_by (made_with_body word t es) = stands_behind_new (anonymous_at p word) s word t es ∷ []
 
 -- all locals of the body so far, whose numbers are their places, and all that was met
 pub record Progress : Type 0 where
@@ -32,12 +58,12 @@ pub record Progress : Type 0 where
 abbrev pub with_met : List Met → Progress → Progress
 with_met met pr = record pr { met = pr.met ++ met }
 
-abbrev pub mentioned_in : Scope → Expression → List Met
-mentioned_in s e = map (mentioned s) (mentions e)
+abbrev pub met_in_expression : Program → Scope → Expression → List Met
+met_in_expression p s e = flat_map (met_by p s) (mentions e)
 
 -- behind an expression
-abbrev pub behind : Scope → Expression → Progress → Progress
-behind s e pr = with_met (mentioned_in s e) pr
+abbrev pub behind : Program → Scope → Expression → Progress → Progress
+behind p s e pr = with_met (met_in_expression p s e) pr
 
 -- ---- scopes
 

@@ -11,7 +11,7 @@ use Rattle.je_typing.specs.Judged.{Judged, gives, ◌>>◌, check}
 use Rattle.name_typing.specs.Program.{Program}
 use Rattle.expression_typing.specs.Expressions.{same_start}
 use Rattle.expression_typing.specs.FinalVariables.{Scope}
-use Rattle.statement_typing.specs.Bodies.{Done, Progress, declares, with_local_class, with_met}
+use Rattle.statement_typing.specs.Bodies.{Done, Progress, stands, with_local_class, with_met}
 
 -- the class whose declaration has its name there
 abbrev pub is_declared_at : Identifier → Written → Bool
@@ -25,15 +25,15 @@ class_declared_at p id = unwrap_or (position (λ (s : Site). is_declared_at id s
 abbrev pub has_class : Program → Scope → NameId → Bool
 has_class p s x = list_any (λ c. has_name (name_in (site_at p.source.sites c).written) x) s.place.here.local_classes
 
-abbrev pub with_class : Scope → Progress → Identifier → ℕ → Done
-with_class s pr id c = record {
+abbrev pub with_class : Scope → Progress → ℕ → Done
+with_class s pr c = record {
   code = [];
   numbers = [];
   scope = with_local_class c s;
-  progress = with_met (declares (with_local_class c s) id ∷ []) pr;
+  progress = with_met (stands c (with_local_class c s) ∷ []) pr;
 }
 
 unfoldable pub local_class : Program → Scope → Progress → Identifier → Judged Done
 local_class p s pr id = do
   check LocalTwice id.span (not (has_class p s id.name))
-  gives (with_class s pr id (class_declared_at p id))
+  gives (with_class s pr (class_declared_at p id))

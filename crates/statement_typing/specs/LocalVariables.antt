@@ -44,7 +44,7 @@ module _ (p : Program) (k : Known) (is_final : Bool) (start : Span) (written_typ
         code = performed start (assigned_to v id e n) ∷ [];
         numbers = next_number pr ∷ [];
         scope = with_local is_final v s;
-        progress = behind (with_local is_final v s) e (with_variable id t pr);
+        progress = behind p (with_local is_final v s) e (with_variable id t pr);
       }
 
   abbrev pub with_initializer : Scope → Progress → Identifier → ℕ → SourceType → Expression → Judged Done

@@ -103,22 +103,22 @@ module _ (p : Program) (k : Known) (returning : Returning) where
 
   abbrev pub behind_if : Scope → MaybeExpression → Progress → Progress
   behind_if s tree.no_expression pr = pr
-  behind_if s (tree.an_expression e) pr = behind s e pr
+  behind_if s (tree.an_expression e) pr = behind p s e pr
 
   -- the steps of a `for`, whose values are dropped
   abbrev pub steps : Scope → Progress → Expressions → Judged (ListDone Core)
   steps s pr tree.no_expressions = gives (none_done pr)
   steps s pr (tree.more_expressions e es) = do
     t ← expression p k s read e
-    rest ← steps s (behind s e pr) es
+    rest ← steps s (behind p s e pr) es
     gives (one_more t.node rest)
 
   abbrev pub performed_steps : Scope → Progress → Expressions → Judged Done
   performed_steps s pr tree.no_expressions = gives (nothing_done s pr)
   performed_steps s pr (tree.more_expressions e es) = do
     t ← expression p k s read e
-    rest ← performed_steps s (behind s e pr) es
-    gives (followed (one (performed (written.span_of e) t.node) s (behind s e pr)) rest)
+    rest ← performed_steps s (behind p s e pr) es
+    gives (followed (one (performed (written.span_of e) t.node) s (behind p s e pr)) rest)
 
   -- ---- declarations of locals (JLS 14.4, 14.14.1.1)
 
@@ -203,7 +203,7 @@ module _ (p : Program) (k : Known) (returning : Returning) where
     statement j label s pr (tree.empty span) = gives (one (stmt Empty span span) s pr)
     statement j label s pr (tree.expression_statement start e span) = do
       t ← expression p k s read e
-      gives (one (performed start t.node) s (behind s e pr))
+      gives (one (performed start t.node) s (behind p s e pr))
     -- JLS 14.7
     statement j label s pr (tree.labelled id b span) = do
       d ← statement (in_label id b j) (Some id) s pr b
@@ -212,26 +212,26 @@ module _ (p : Program) (k : Known) (returning : Returning) where
     -- JLS 14.9
     statement j label s pr (tree.if_only word c b span) = do
       t ← valued s c
-      chosen ← statement j None s (behind s c pr) b
+      chosen ← statement j None s (behind p s c pr) b
       code ← if_statement word (written.span_of c) t (alone chosen) no_stmt
       gives (one code s chosen.progress)
     statement j label s pr (tree.if_else word c b b' span) = do
       t ← valued s c
-      chosen ← statement j None s (behind s c pr) b
+      chosen ← statement j None s (behind p s c pr) b
       other ← statement j None s chosen.progress b'
       code ← if_statement word (written.span_of c) t (alone chosen) (a_stmt (alone other))
       gives (one code s other.progress)
     -- JLS 14.12, 14.13
     statement j label s pr (tree.while word c b span) = do
       t ← valued s c
-      d ← statement (in_loop j) None s (behind s c pr) b
+      d ← statement (in_loop j) None s (behind p s c pr) b
       code ← loop_statement word (written.span_of c) t [] (alone d)
       gives (one code s d.progress)
     statement j label s pr (tree.do_while word b c span) = do
       d ← statement (in_loop j) None s pr b
       t ← valued s c
       code ← do_loop word (written.span_of c) (alone d) t
-      gives (one code s (behind s c d.progress))
+      gives (one code s (behind p s c d.progress))
     -- JLS 14.14
     statement j label s pr (tree.for word start c es b span) = do
       first ← for_start s pr start
@@ -244,13 +244,13 @@ module _ (p : Program) (k : Known) (returning : Returning) where
       of ← body_type p s.place.here t
       array ← valued s e
       d ← statement (in_loop j) None (with_element s pr is_final of id)
-          (with_number p.heads id.name of is_final id.span (with_hidden (written.span_of e) array (behind s e pr))) b
+          (with_number p.heads id.name of is_final id.span (with_hidden (written.span_of e) array (behind p s e pr))) b
       code ← for_each_judged s label word e array (next_number pr) of id (alone d)
       gives (one code s d.progress)
     -- JLS 14.11
     statement j label s pr (tree.switch word e gs span) = do
       t ← valued s e
-      ds ← groups (in_switch j) (enum_of p.heads t.type) s (behind s e pr) gs
+      ds ← groups (in_switch j) (enum_of p.heads t.type) s (behind p s e pr) gs
       code ← switch_judged word e (selected_by (enum_of p.heads t.type) t) ds
       gives (one code s ds.progress)
     -- JLS 14.15 to 14.18
@@ -266,7 +266,7 @@ module _ (p : Program) (k : Known) (returning : Returning) where
     statement j label s pr (tree.throw word e span) = do
       t ← valued s e
       code ← thrown p.heads word (written.span_of e) t
-      gives (one code s (behind s e pr))
+      gives (one code s (behind p s e pr))
     -- JLS 14.20
     statement j label s pr (tree.try word opening b closing cs span) = do
       d ← statements j s pr b

@@ -78,7 +78,7 @@ module _ (p : Program) (k : Known) (of_enum : Option ℕ) (s : Scope) where
 
   -- the label of an enum's constant is no expression, and mentions nothing
   abbrev pub behind_label : Option ℕ → Expression → Progress → Progress
-  behind_label None e pr = behind s e pr
+  behind_label None e pr = behind p s e pr
   behind_label (Some c) e pr = pr
 
   abbrev pub labels : Progress → Labels → Judged LabelsMet
