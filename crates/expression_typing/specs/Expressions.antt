@@ -22,9 +22,9 @@ use Rattle.je_ast.specs.Types.{QualifiedName, TypeName, primitive, class_type}
 use Rattle.je_classes.specs.Members.{Member}
 use Rattle.je_scopes.specs.Looks.{Look, a_class}
 use Rattle.je_scopes.specs.Scope.{header}
-use Rattle.je_scopes.specs.Settled.{settled}
 use Rattle.je_scopes.specs.Sites.{Site, Written, behind_new}
-use Rattle.je_scopes.specs.SourceTypes.{SourceType, of_class, source_type, with_dims}
+use Rattle.je_scopes.specs.SourceTypes.{SourceType, of_class, with_dims}
+use Rattle.declarations.specs.Declarations.{type_at}
 use Rattle.header_typing.specs.WrittenTypes as types
 use Rattle.je_typing.specs.declared.fault.TypeRule.TheVariants.{BadArray, UnknownName}
 use Rattle.je_typing.specs.Arrays.{Part, array_of, array_type, element, elements_if, elements_node, new_array}
@@ -73,7 +73,7 @@ anonymous_at p word = unwrap_or (position (λ (s : Site). is_behind word s.writt
 
 -- the type that it names, which was judged with the headers
 abbrev pub anonymous_type : Program → Span → TypeName → SourceType
-anonymous_type p word t = source_type p.source (settled p.source) (anonymous_at p word) header t
+anonymous_type p word t = type_at p.source (anonymous_at p word) header t
 
 -- ---- `C.this`: a class by its name
 
