@@ -7,5 +7,5 @@
 mod making;
 mod part;
 
-pub use making::{array_of, new_array};
+pub use making::{array_of, new_array, new_array_of};
 pub use part::Part;

@@ -10,6 +10,7 @@ ghost use Rattle.je_typing.specs.declared.fault.TypeRule.TheVariants.{BadArray};
 ghost use Rattle.je_typing.specs.Judged.{gives, need as the_need};
 ghost use Rattle.je_typing.specs.Typed.{element_type as the_element_type};
 ghost use Rattle.name_types.specs.View.{base_shown, shown};
+ghost use Rattle.array_making.specs.Made.{new_array_of as the_new_array_of};
 ghost use Rattle.array_making.specs.Parts.{part_seen};
 ghost use Rattle.array_making.specs.way.Elements.{array_by as the_array_by};
 ghost use Rattle.source_subtypes.specs.View.{heads_of};
@@ -73,7 +74,8 @@ fn innermost(element: SrcBase) -> SrcTy
 // A type of so many dimensions.
 fn sized(base: SrcBase, dims: usize) -> SrcTy
     requires { dims ≤ 255 }
-    ensures { shown result ≡ with_dims (base_shown base 0) dims }
+    ensures shown { shown result ≡ with_dims (base_shown base 0) dims }
+    ensures base { result.base ≡ base }
 {
     SrcTy {
         base,
@@ -280,5 +282,48 @@ pub fn array_of(
 {
     let element = element_of(alloc, &ty)?;
     let whole = array_by(alloc, heads, ty, element, span, parts)?;
+    Ok(whole)
+}
+
+// The elements of a new array, of the type that is written.
+#[tactic(auto, using(je_typing::proofs::Walks::walks))]
+fn elements_of(
+    alloc: Global,
+    heads: &ClassHeads,
+    ty: &SrcTy,
+    parts: Vec<Part>,
+) -> Result<Vec<Rc<Expr>>, Refusal>
+    ensures ok { IfOk result (λ es. the_elements_if (heads_of heads.now)
+        (the_element_type (shown ty.now)) (map part_seen parts.items) ≡ gives (views es.items)) }
+    ensures err { IfErr result (IsFault (the_elements_if (heads_of heads.now)
+        (the_element_type (shown ty.now)) (map part_seen parts.items))) }
+{
+    let element = element_of(alloc, ty)?;
+    let values = elements_if(alloc, heads, &element, parts)?;
+    Ok(values)
+}
+
+/// `new E[].. { .. }`: elements for so many dimensions over innermost elements of a type that is no array. They are judged
+/// first, by the type, of which no more than 255 dimensions count.
+#[tactic(auto, using(je_typing::proofs::Walks::walks))]
+pub fn new_array_of(
+    alloc: Global,
+    heads: &ClassHeads,
+    element: SrcBase,
+    dims: usize,
+    element_span: Span,
+    span: Span,
+    parts: Vec<Part>,
+) -> Result<TypedExpr, Refusal>
+    ensures ok { IfOk result (λ t. the_new_array_of (heads_of heads.now) (base_shown element 0) dims
+        element_span span (map part_seen parts.items) ≡ gives (seen t)) }
+    ensures err { IfErr result (IsFault (the_new_array_of (heads_of heads.now)
+        (base_shown element 0) dims element_span span (map part_seen parts.items))) }
+{
+    let ty = sized(element, dims.min(255));
+    let values = elements_of(alloc, heads, &ty, parts)?;
+    let SrcTy { base, .. } = ty;
+    let made = array_type(heads, base, dims, 0, element_span)?;
+    let whole = typed_elements(heads, made, span, values);
     Ok(whole)
 }
