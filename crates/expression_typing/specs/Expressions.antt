@@ -1,6 +1,6 @@
 -- Expressions (JLS 15): what each comes to, a node with its type, or the first fault. Parts come from left to right
 -- before the whole, and each form is one step of a chapter of its own on what its parts came to.
-use Rattle.std.specs.Prelude.{ℕ, Bool, true, false, List, [], ◌∷◌, Option, Some, None, nat_eq, unwrap_or, if◌then◌else◌}
+use Rattle.std.specs.Prelude.{ℕ, Bool, true, false, List, [], ◌∷◌, Option, Some, None, min, nat_eq, unwrap_or, if◌then◌else◌}
 use Rattle.std.specs.List.{position}
 use Rattle.je_base.specs.declared.span.Span.{Span}
 use Rattle.je_core.specs.declared.types.Base.TheVariants as base
@@ -23,7 +23,7 @@ use Rattle.je_classes.specs.Members.{Member}
 use Rattle.je_scopes.specs.Looks.{Look, a_class}
 use Rattle.je_scopes.specs.Scope.{header}
 use Rattle.je_scopes.specs.Sites.{Site, Written, behind_new}
-use Rattle.je_scopes.specs.SourceTypes.{SourceType, of_class, with_dims}
+use Rattle.je_scopes.specs.SourceTypes.{SourceType, of_class, of_variable, plain, with_dims}
 use Rattle.declarations.specs.Declarations.{type_at}
 use Rattle.header_typing.specs.WrittenTypes as types
 use Rattle.je_typing.specs.declared.fault.TypeRule.TheVariants.{BadArray, UnknownName}
@@ -80,6 +80,17 @@ anonymous_type p word t = type_at p.source (anonymous_at p word) header t
 abbrev pub class_of_look : Look → Option ℕ
 class_of_look (a_class c) = Some c
 class_of_look look = None
+
+-- ---- new arrays (JLS 15.10): the type of the innermost elements is written without brackets, and no array has more
+-- than 255 dimensions (JVMS 4.3.2), which is asked behind the elements
+
+abbrev pub innermost : SourceType → SourceType
+innermost (plain b dims) = plain b 0
+innermost (of_class c args dims) = of_class c args 0
+innermost (of_variable c at dims) = of_variable c at 0
+
+abbrev pub array_over : SourceType → ℕ → SourceType
+array_over of dims = with_dims (innermost of) (min 255 dims)
 
 -- ---- elements of an array initializer: of the type of the elements, where the type has elements
 
@@ -257,12 +268,12 @@ module _ (p : Program) (k : Known) (s : Scope) where
     expression purpose (tree.new_array t es dims span) = do
       of ← bare_type p s.place.here t
       lengths ← parts es
-      new_array p.heads of dims (name_span t) span lengths
+      new_array p.heads (innermost of) dims (name_span t) span lengths
     expression purpose (tree.new_array_of t dims e span) = do
       of ← bare_type p s.place.here t
-      elements ← elements_in (with_dims of dims) e
-      given ← elements_if p.heads (element_type (with_dims of dims)) elements
-      made ← array_type p.heads of dims (name_span t)
+      elements ← elements_in (array_over of dims) e
+      given ← elements_if p.heads (element_type (array_over of dims)) elements
+      made ← array_type p.heads (innermost of) dims (name_span t)
       gives (elements_node p.heads made span given)
     -- JLS 10.6: it stands only where a type is known
     expression (initial t) (tree.array_init es span) = do

@@ -9,6 +9,7 @@ use Rattle.je_ast.specs.Trees.{Expression, MaybeExpression, Variables}
 use Rattle.je_ast.specs.Trees as tree
 use Rattle.je_ast.specs.Types.{TypeName}
 use Rattle.je_scopes.specs.SourceTypes.{SourceType, with_dims}
+use Rattle.name_types.specs.View.{in_limit}
 use Rattle.header_typing.specs.WrittenTypes.{well_declared}
 use Rattle.je_typing.specs.declared.fault.TypeRule.TheVariants.{LocalTwice}
 use Rattle.je_typing.specs.Assignments.{assign_node}
@@ -70,10 +71,13 @@ module _ (p : Program) (k : Known) (is_final : Bool) (start : Span) (written_typ
     well_declared written_type dims id
     gives (uninitialized s pr id t)
 
-  -- brackets may stand behind the name
+  -- brackets may stand behind the name; no type has more than 255 dimensions, which is asked behind the initializer
+  abbrev pub variable_type : ℕ → SourceType
+  variable_type dims = in_limit (with_dims of dims)
+
   abbrev pub variable : Scope → Progress → Identifier → ℕ → MaybeExpression → Judged Done
-  variable s pr id dims tree.no_expression = without_initializer s pr id dims (with_dims of dims)
-  variable s pr id dims (tree.an_expression e) = with_initializer s pr id dims (with_dims of dims) e
+  variable s pr id dims tree.no_expression = without_initializer s pr id dims (variable_type dims)
+  variable s pr id dims (tree.an_expression e) = with_initializer s pr id dims (variable_type dims) e
 
   abbrev pub variables : Scope → Progress → Variables → Judged Done
   variables s pr tree.no_variables = gives (nothing_done s pr)
