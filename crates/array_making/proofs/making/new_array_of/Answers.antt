@@ -1,4 +1,4 @@
-use Rattle.std.proofs.Common.{rules, ◌≡◌, ℕ, List, map, sym, ap, ◌∙◌}
+use Rattle.std.proofs.Common.{rules, ◌≡◌, List, map, sym, ap, ◌∙◌}
 use Rattle.std.specs.Prelude.{min}
 use Rattle.je_core.specs.Core.{Core}
 use Rattle.je_core.specs.View.{views}
