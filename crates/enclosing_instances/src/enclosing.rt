@@ -19,8 +19,8 @@ use name_lookup::Look;
 use name_sites::is_local;
 use name_types::SrcTy;
 
-// Whether the objects of a class have an instance round them.
-fn is_inner(program: &Program, class: ClassId) -> bool
+/// Whether the objects of a class have an instance round them.
+pub fn is_inner(program: &Program, class: ClassId) -> bool
     ensures { result ≡ the_is_inner (program_seen program.now) class.0 }
 {
     is_instance(program.source.sites.outside(class).context)
@@ -64,8 +64,8 @@ fn is_within(within: Option<ClassId>, class: ClassId) -> bool
     }
 }
 
-// Whether a body is of a class that a class is local in, or a member of.
-fn is_round(program: &Program, class: ClassId, frame: &Frame) -> Result<bool, Memory>
+/// Whether a body is of a class that a class is local in, or a member of.
+pub fn is_round(program: &Program, class: ClassId, frame: &Frame) -> Result<bool, Memory>
     ensures { IfOk result (λ is_so. is_so ≡
         the_is_round (program_seen program.now) class.0 (frame_seen frame.now)) }
 {
