@@ -8,7 +8,7 @@ use Rattle.class_typing.specs.Captures.{captures}
 use Rattle.class_typing.specs.Programs as programs
 use Rattle.body_places.specs.declared.place.Frame.{Frame}
 use Rattle.body_places.specs.Places.{frame_seen, local_seen}
-use Rattle.body_scopes.specs.Blank.{blank_seen}
+use Rattle.body_scopes.specs.View.{blank_seen}
 use Rattle.known_classes.specs.declared.known.CapturedLocal.{CapturedLocal}
 use Rattle.known_classes.specs.declared.known.Known.{Known}
 
