@@ -17,9 +17,9 @@ use name_types::{SrcBase, SrcTy};
 use source_subtypes::{Arguments, ClassHeads, argument, is_subtype, substituted};
 use std::alloc::Global;
 
-// Where a type is written.
+/// Where a type is written.
 #[tactic(auto, using(je_ast::proofs::Views::type_is))]
-fn span_of(ty: &TyName) -> Span
+pub fn span_of(ty: &TyName) -> Span
     ensures { result ≡ the_span_of (type_view ty.now) }
 {
     span_of_here(ty)

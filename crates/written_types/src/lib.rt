@@ -8,7 +8,7 @@
 mod arguments;
 mod walk;
 
-pub use arguments::bounded;
+pub use arguments::{bounded, span_of};
 pub use walk::{
     Surroundings, is_in_limit, judge_declared, judge_formal, judge_optional_type, judge_type,
     meaning,
