@@ -1,0 +1,4 @@
+pub mod Arguments
+pub mod Bases
+pub mod Behind
+pub mod ClassTypes
