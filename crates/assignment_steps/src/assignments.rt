@@ -42,8 +42,8 @@ fn judged_value(
     Ok(value)
 }
 
-// An assignment of a value of the variable's type.
-fn typed_assignment(
+/// An assignment of a value of the variable's type.
+pub fn typed_assignment(
     alloc: Global,
     heads: &ClassHeads,
     at: Span,

@@ -6,4 +6,4 @@
 
 mod assignments;
 
-pub use assignments::{assignment, compound};
+pub use assignments::{assignment, compound, typed_assignment};

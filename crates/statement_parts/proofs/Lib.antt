@@ -1,0 +1,4 @@
+pub mod Following
+pub mod Caught
+pub mod Grouped
+pub mod Enums
