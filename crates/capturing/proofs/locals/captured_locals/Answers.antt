@@ -1,0 +1,13 @@
+use Rattle.std.proofs.Common.{ap, sym, ◌∙◌}
+use Rattle.std.specs.Prelude.{map}
+use Rattle.je_scopes.proofs.Either.{by_either, within_or_past}
+use Rattle.body_places.specs.View.{program_seen}
+use Rattle.known_classes.specs.Known.{locals_in, round_seen}
+use Rattle.met_in_bodies.specs.Seen.{met_seen}
+use Rattle.std.proofs.lemmas.Option.{slice_get_past}
+use Rattle.capturing.proofs.Ordered.{all_captured}
+use Rattle.capturing.proofs.locals.captured_locals.Goals as goal
+
+pub returns : goal.returns
+returns c = all_captured (program_seen c.args.program.now) (map met_seen c.args.met.now) c.in_ok-all.all.keys c.in_ok-all.ensures (round_seen c.args.round.now)
+    c.in_ok-lists.lists.items c.in_ok-lists.ensures.whole c.in_ok-lists.ensures.each

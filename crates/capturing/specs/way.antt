@@ -1,0 +1,4 @@
+-- What only private functions and proofs cite.
+pub mod Users
+pub mod Kept
+pub mod Locals
