@@ -1,10 +1,7 @@
 // What the bodies of a program are judged by.
 
-ghost use Rattle.class_heads.specs.View.{classes_of};
 ghost use Rattle.class_spots.specs.Spots.{AreSpotsOf};
-ghost use Rattle.method_candidates.specs.TableView.{HasMethods};
 ghost use Rattle.name_sites.specs.View.{source_of};
-ghost use Rattle.source_subtypes.specs.View.{heads_of};
 
 use call_steps::Calls;
 use class_spots::ClassSpots;
@@ -17,7 +14,5 @@ pub struct Bodies<'a> {
     pub calls: Calls<'a>,
     pub known: Known<'a>,
     pub spots: &'a ClassSpots,
-    ghost methods: { HasMethods (heads_of calls.program.heads.now) (classes_of calls.program.classes)
-        calls.methods.now },
     ghost spotted: { AreSpotsOf (source_of calls.program.source.sites.now).sites spots.now },
 }

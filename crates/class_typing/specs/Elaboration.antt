@@ -2,7 +2,7 @@
 -- order, and then the bodies of all classes in that order, those of a class inside another one behind the whole of
 -- that one (JLS 8, 9). Bodies are walked twice: what each class captures is known when all bodies were met, and then
 -- their code is.
-use Rattle.std.specs.Prelude.{ℕ, zero, suc, ◌-◌, Bool, false, ◌&&◌, List, [], ◌∷◌, ◌++◌, length, Option, Some, None, is_none, is_some}
+use Rattle.std.specs.Prelude.{ℕ, zero, suc, ◌-◌, Bool, false, List, [], ◌∷◌, ◌++◌, length, Option, Some, None, is_some}
 use Rattle.std.specs.List.{position}
 use Rattle.je_base.specs.declared.span.NameId.{NameId}
 use Rattle.je_core.specs.Core.{CoreClass, CoreProgram}
@@ -21,7 +21,7 @@ use Rattle.class_typing.specs.Captures.{captured_locals, captures}
 use Rattle.class_typing.specs.Classes.{core_class}
 use Rattle.class_typing.specs.ConstantFields.{constants_of, constants_shifted, is_blank, library_constants}
 use Rattle.class_typing.specs.Members.{MembersDone, class_members}
-use Rattle.class_typing.specs.Places.{in_body, is_placed, round_behind, round_class}
+use Rattle.class_typing.specs.Places.{is_placed, round_behind, round_without_locals}
 use Rattle.class_typing.specs.Programs.{CapturedLocal, classes, hidden_fields, library_count, number, plain_program}
 use Rattle.class_typing.specs.Texts.{texts}
 
@@ -60,20 +60,21 @@ module _ (source : Source) where
   abbrev pub with_constants : Program → (Member → Option Constant) → Program
   with_constants p constants = record p { constants = constants }
 
-  -- ---- where classes stand, and their constants: of one that stands in a body they are told when that body was walked
+  -- ---- where classes stand, and their constants: of one that stands in a body, by its locals, when that body was
+  -- walked, and without them before
 
   abbrev pub constants_told : (ℕ → Bool) → (ℕ → List Frame) → (Member → Option Constant) → Member → Option Constant
   constants_told is_asked round known =
       constants_of first_program (hidden_count nothing_captured) round is_asked known
 
-  -- a class of the program that stands in no body
-  abbrev pub is_outside_bodies : ℕ → Bool
-  is_outside_bodies c = is_guest (site_at source.sites c).written && is_none (in_body source.sites c)
+  abbrev pub is_guest_class : ℕ → Bool
+  is_guest_class c = is_guest (site_at source.sites c).written
 
   abbrev pub told_first : Told
   told_first = record {
-    round = round_class source.sites [];
-    constants = constants_told is_outside_bodies (round_class source.sites []) (library_constants source);
+    round = round_without_locals source.sites;
+    constants =
+        constants_told is_guest_class (round_without_locals source.sites) (library_constants source);
   }
 
   abbrev pub told_behind : Told → List Met → Told

@@ -43,14 +43,23 @@ module _ (sites : List Site) where
   unfoldable pub in_body : ℕ → Option ℕ
   in_body c = innermost_in_body c (site_at sites c).spot.round
 
-  -- ---- the bodies round a class, by the classes round it: those round the class that stands in a body are given, and
-  -- a member class stands in the class's own, which has no locals
+  -- ---- the bodies round a class, by the classes round it: a member class stands in the class's own, which has no locals
 
+  abbrev pub member_body : ℕ → ℕ → Frame
+  member_body c d = member_frame d ((site_at sites c).spot.context) None []
+
+  -- where no locals are known
+  abbrev pub bodies_without_locals : ℕ → List ℕ → List Frame
+  bodies_without_locals c [] = []
+  bodies_without_locals c (d ∷ ds) = member_body c d ∷ bodies_without_locals d ds
+
+  unfoldable pub round_without_locals : ℕ → List Frame
+  round_without_locals c = bodies_without_locals c (site_at sites c).spot.round
+
+  -- where those round the class that stands in a body are given
   abbrev pub bodies_round : List Frame → ℕ → List ℕ → List Frame
-  bodies_round given c [] = if is_in_body c then given else []
-  bodies_round given c (d ∷ ds) =
-      if is_in_body c then given
-      else member_frame d ((site_at sites c).spot.context) None [] ∷ bodies_round given d ds
+  bodies_round given c [] = given
+  bodies_round given c (d ∷ ds) = if is_in_body c then given else member_body c d ∷ bodies_round given d ds
 
   unfoldable pub round_class : List Frame → ℕ → List Frame
   round_class given c = bodies_round given c (site_at sites c).spot.round
