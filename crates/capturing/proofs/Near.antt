@@ -1,15 +1,15 @@
 -- The users of all classes, as they are added.
-use Rattle.std.proofs.Common.{◌≡◌, ℕ, zero, suc, ◌+◌, ◌<◌, List, [], ◌∷◌, ◌++◌, length, get_or, take, refl, sym, ◌∙◌, ap, subst, arith, inl, inr, eq-eqb}
-use Rattle.std.specs.Prelude.{◌⊎◌, Bool, true, false, Option, Some, None, cond, filter, flat_map, map, nat_eq}
+use Rattle.std.proofs.Common.{◌≡◌, ℕ, ◌+◌, ◌<◌, List, [], ◌∷◌, ◌++◌, length, refl, sym, ◌∙◌, ap, subst, arith, inl, inr, eq-eqb}
+use Rattle.std.specs.Prelude.{Bool, true, Option, Some, None, cond, filter, flat_map, map, nat_eq}
 use Rattle.std.specs.List.{Contains}
 use Rattle.std.proofs.lemmas.Bool.{eqb-true}
-use Rattle.std.proofs.lemmas.List.{map-append, take_more}
+use Rattle.std.proofs.lemmas.List.{map-append}
 use Rattle.je_classes.proofs.Lists.{bool_cases, contains-here, contains-later, contains-cases}
 use Rattle.je_scopes.specs.Faults.{below}
 use Rattle.je_scopes.specs.Headers.{site_at, within}
 use Rattle.je_scopes.specs.SourceTypes.{SourceType}
 use Rattle.je_scopes.proofs.Either.{by_either, nat_split, nothing-in}
-use Rattle.je_scopes.proofs.Lists.{From, flat-from, in-below, in-either, in-filter, in-flat, in-left, in-right}
+use Rattle.je_scopes.proofs.Lists.{flat-from, in-below, in-either, in-filter, in-flat, in-left, in-right}
 use Rattle.source_types.specs.Heads.{supers_of}
 use Rattle.header_typing.specs.Supers.{class_in}
 use Rattle.name_typing.specs.Program.{Frame, Program}

@@ -1,6 +1,6 @@
 -- Rounds by which all that classes capture is come by.
-use Rattle.std.proofs.Common.{◌≡◌, ℕ, zero, suc, ◌<◌, ◌≤◌, List, [], ◌∷◌, ◌++◌, length, get_or, Option, Some, None, refl, sym, ◌∙◌, ap, subst, arith, inl, inr, length-append}
-use Rattle.std.specs.Prelude.{◌⊎◌, Bool, true, slice_get}
+use Rattle.std.proofs.Common.{◌≡◌, ℕ, zero, suc, ◌<◌, ◌≤◌, List, [], ◌∷◌, length, get_or, Some, refl, sym, ◌∙◌, ap, subst, arith, inl, inr, length-append}
+use Rattle.std.specs.Prelude.{◌⊎◌, true, slice_get}
 use Rattle.std.specs.List.{Contains}
 use Rattle.std.proofs.lemmas.Option.{slice_get-get_or, slice_get_within}
 use Rattle.je_core.specs.declared.types.ClassId.{ClassId}
@@ -10,14 +10,14 @@ use Rattle.je_scopes.proofs.Lists.{in-either}
 use Rattle.name_walk.proofs.Standing.{slice_get-append}
 use Rattle.source_types.specs.Erasure.{class_numbered}
 use Rattle.name_typing.specs.Program.{Frame, Program}
-use Rattle.statement_typing.specs.Bodies.{Met, captures}
+use Rattle.statement_typing.specs.Bodies.{Met}
 use Rattle.class_typing.specs.Captures.{captures_within, classes_near}
 use Rattle.capturing.specs.declared.kept.Kept.{Kept}
 use Rattle.capturing.specs.declared.users.Users.{Users}
 use Rattle.capturing.specs.way.Kept.{AreAll, Gains, IsDirect, IsHandedOn, IsHandedTo, IsOutside, IsSoFar, captures_in}
 use Rattle.capturing.specs.way.Users.{AreUsers, users_of}
 use Rattle.capturing.proofs.Gained.{kept-all}
-use Rattle.capturing.proofs.Ways.{Along, along, by_name, by_near, longer_by_one, longer_ways, outside_within}
+use Rattle.capturing.proofs.Ways.{along, by_name, by_near, longer_by_one, longer_ways, outside_within}
 
 contains-get : {A : Type 0} (xs : List A) (i : ℕ) (x : A) → slice_get xs i ≡ Some x → Contains xs x
 contains-get [] i x e = absurd (cc)

@@ -1,14 +1,14 @@
 -- Users of classes that are added one by one.
-use Rattle.std.proofs.Common.{◌≡◌, ◌≢◌, ℕ, zero, suc, ◌+◌, ◌<◌, ◌≤◌, List, [], ◌∷◌, ◌++◌, length, set, Option, Some, None, refl, sym, ◌∙◌, ap, subst, arith, inl, inr}
-use Rattle.std.specs.Prelude.{◌⊎◌, slice_get, map}
+use Rattle.std.proofs.Common.{◌≡◌, ◌≢◌, ℕ, zero, suc, ◌<◌, List, [], ◌∷◌, ◌++◌, length, set, Option, Some, None, refl, sym, ◌∙◌, ap, subst, arith, inl, inr}
+use Rattle.std.specs.Prelude.{◌⊎◌, slice_get}
 use Rattle.std.specs.List.{Contains}
 use Rattle.std.specs.declared.vec.Vec.{Vec}
 use Rattle.std.specs.declared.alloc.Global.{Global}
 use Rattle.std.proofs.lemmas.List.{map-append}
-use Rattle.std.proofs.lemmas.Option.{slice_get_past, slice_get_within}
+use Rattle.std.proofs.lemmas.Option.{slice_get_within}
 use Rattle.je_core.specs.declared.types.ClassId.{ClassId}
 use Rattle.je_classes.proofs.Lists.{contains-here, contains-cases}
-use Rattle.je_scopes.proofs.Either.{by_either, nothing-in, within_or_past}
+use Rattle.je_scopes.proofs.Either.{by_either, nothing-in}
 use Rattle.je_scopes.proofs.Lists.{in-left, in-right, in-either}
 use Rattle.scope_laws.proofs.Cycles.{nat_either}
 use Rattle.name_sites.specs.Number.{number_of}

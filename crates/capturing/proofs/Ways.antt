@@ -1,11 +1,11 @@
 -- What classes capture along ways of so many classes.
-use Rattle.std.proofs.Common.{◌≡◌, ℕ, zero, suc, ◌+◌, ◌<◌, ◌≤◌, List, length, refl, ◌∙◌, ap, subst, arith, inl, inr, eq-eqb}
-use Rattle.std.specs.Prelude.{◌⊎◌, ◌&&◌, ◌||◌, Bool, true, false, nat_eq, Option, Some, None, slice_get}
+use Rattle.std.proofs.Common.{◌≡◌, ℕ, zero, suc, ◌<◌, ◌≤◌, List, length, refl, ◌∙◌, ap, subst, arith, inl, inr, eq-eqb}
+use Rattle.std.specs.Prelude.{◌⊎◌, ◌&&◌, ◌||◌, Bool, true, false, nat_eq, Option, slice_get}
 use Rattle.std.specs.List.{Contains, list_any}
 use Rattle.std.proofs.lemmas.Bool.{and_parts, eqb-true, or_cases}
 use Rattle.std.proofs.lemmas.Option.{slice_get_past}
 use Rattle.je_classes.proofs.Lists.{Passing, any-contains, contains-any}
-use Rattle.je_scopes.specs.Headers.{or_nothing, site_at}
+use Rattle.je_scopes.specs.Headers.{or_nothing}
 use Rattle.je_scopes.specs.Sites.{Site}
 use Rattle.je_scopes.proofs.Either.{by_either, nat_split, within_or_past}
 use Rattle.name_typing.specs.Program.{Frame, Program}

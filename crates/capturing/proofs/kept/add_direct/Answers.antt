@@ -1,9 +1,8 @@
-use Rattle.std.proofs.Common.{◌≡◌, ◌+◌, ◌++◌, ◌∷◌, [], take, map, ap, subst, sym, arith}
+use Rattle.std.proofs.Common.{◌≡◌, ◌+◌, ◌++◌, ◌∷◌, [], take, map, ap, arith}
 use Rattle.body_places.specs.View.{program_seen}
 use Rattle.met_in_bodies.specs.Seen.{met_seen}
-use Rattle.capturing.specs.way.Kept.{Gains, IsDirect}
 use Rattle.capturing.proofs.Ends.{map-take-more}
-use Rattle.capturing.proofs.Gained.{direct_begins, direct_none, direct_one}
+use Rattle.capturing.proofs.Gained.{direct_none, direct_one}
 use Rattle.capturing.proofs.Heard.{names_nothing}
 use Rattle.capturing.proofs.kept.add_direct.Goals as goal
 use Rattle.capturing.proofs.kept.add_direct.Goals.{in-Captures+in_ok-add, in_default}

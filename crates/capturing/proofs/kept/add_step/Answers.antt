@@ -1,7 +1,7 @@
-use Rattle.std.proofs.Common.{◌≡◌, ◌+◌, ◌<◌, ◌≤◌, List, Some, None, ℕ, length, ap, subst, sym, arith}
+use Rattle.std.proofs.Common.{◌≡◌, ◌<◌, ◌≤◌, List, Some, None, ℕ, length, subst, arith}
 use Rattle.std.specs.Prelude.{slice_get}
 use Rattle.body_places.specs.View.{program_seen}
-use Rattle.capturing.specs.way.Kept.{Gains, IsHandedOn, IsHandedTo}
+use Rattle.capturing.specs.way.Kept.{Gains, IsHandedTo}
 use Rattle.capturing.proofs.Gained.{step_ends, step_one, step_there}
 use Rattle.capturing.proofs.kept.add_step.Goals as goal
 use Rattle.capturing.proofs.kept.add_step.Goals.{in-Some+in_ok-add_users, in_default}

@@ -1,4 +1,4 @@
-use Rattle.std.proofs.Common.{◌≡◌, ◌+◌, ◌<◌, ◌≤◌, List, suc, map, length, subst, sym, ◌∙◌, arith, inl}
+use Rattle.std.proofs.Common.{◌<◌, List, map, subst, ◌∙◌, arith, inl}
 use Rattle.body_places.specs.View.{program_seen}
 use Rattle.met_in_bodies.specs.Seen.{met_seen}
 use Rattle.capturing.specs.declared.kept.Kept.{Kept}

@@ -1,10 +1,7 @@
-use Rattle.std.proofs.Common.{ap, sym, ◌∙◌}
 use Rattle.std.specs.Prelude.{map}
-use Rattle.je_scopes.proofs.Either.{by_either, within_or_past}
 use Rattle.body_places.specs.View.{program_seen}
-use Rattle.known_classes.specs.Known.{locals_in, round_seen}
+use Rattle.known_classes.specs.Known.{round_seen}
 use Rattle.met_in_bodies.specs.Seen.{met_seen}
-use Rattle.std.proofs.lemmas.Option.{slice_get_past}
 use Rattle.capturing.proofs.Ordered.{all_captured}
 use Rattle.capturing.proofs.locals.captured_locals.Goals as goal
 

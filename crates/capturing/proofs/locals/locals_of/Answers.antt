@@ -1,4 +1,4 @@
-use Rattle.std.proofs.Common.{◌≡◌, ◌∷◌, ◌++◌, ◌-◌, ◌<◌, List, drop, filter, map, ap, sym, ◌∙◌, arith}
+use Rattle.std.proofs.Common.{◌≡◌, ◌∷◌, ◌++◌, ◌-◌, List, drop, filter, map, ap, sym, ◌∙◌, arith}
 use Rattle.class_typing.specs.Captures.{reversed}
 use Rattle.body_places.specs.declared.place.Frame.{Frame}
 use Rattle.body_places.specs.declared.place.LocalVariable.{LocalVariable}

@@ -1,4 +1,4 @@
-use Rattle.std.proofs.Common.{◌≡◌, ◌+◌, ◌++◌, ◌∷◌, [], take, map, ap, subst, sym, arith}
+use Rattle.std.proofs.Common.{◌≡◌, ◌+◌, ◌++◌, ◌∷◌, [], take, map, sym, arith}
 use Rattle.name_types.specs.View.{shown}
 use Rattle.capturing.proofs.Ends.{map-take-more}
 use Rattle.capturing.proofs.Near.{under_none, under_one}

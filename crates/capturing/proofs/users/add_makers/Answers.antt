@@ -1,4 +1,4 @@
-use Rattle.std.proofs.Common.{◌≡◌, ◌+◌, ◌++◌, ◌∷◌, [], take, map, ap, subst, sym, arith}
+use Rattle.std.proofs.Common.{◌≡◌, ◌+◌, ◌++◌, ◌∷◌, [], take, map, ap, arith}
 use Rattle.met_in_bodies.specs.Seen.{met_seen}
 use Rattle.capturing.proofs.Ends.{map-take-more}
 use Rattle.capturing.proofs.Heard.{makes_nothing}

@@ -1,6 +1,5 @@
-use Rattle.std.proofs.Common.{◌≡◌, ap, subst, sym, ◌∙◌}
+use Rattle.std.proofs.Common.{ap, sym, ◌∙◌}
 use Rattle.body_places.specs.View.{program_seen}
-use Rattle.capturing.specs.way.Users.{Adds, IsRound}
 use Rattle.capturing.proofs.Near.{round_none, round_one}
 use Rattle.capturing.proofs.users.add_round.Goals as goal
 use Rattle.capturing.proofs.users.add_round.Goals.{in-Some+in_ok-add, in_default}
