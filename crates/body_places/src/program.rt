@@ -2,9 +2,7 @@
 
 ghost use Rattle.std.specs.Prelude.{◌<◌, ◌^◌, ℕ, length};
 ghost use Rattle.class_heads.specs.View.{classes_of};
-ghost use Rattle.field_lookup.specs.Once.{EachClassOnce};
 ghost use Rattle.name_typing.specs.Fields.{fields_of};
-ghost use Rattle.source_subtypes.specs.View.{heads_of};
 
 use crate::tables::{Captured, Constant};
 use class_heads::AllClasses;
@@ -24,6 +22,5 @@ pub struct Program<'a> {
     pub outer: &'a [u32],
     /// The fields in which an instance keeps the values of locals of the bodies round its class.
     pub captured: &'a [Vec<Captured>],
-    ghost once: { EachClassOnce (heads_of heads.now) },
     ghost few: { (c : ℕ) → length (fields_of (classes_of classes) c) < 2 ^ 32 },
 }

@@ -1,4 +1,4 @@
--- Where each class is above a type once, it doesn't matter in which order those above are listed.
+-- In which order, and how often, the types above one are listed makes no difference to the only one of a class.
 use Rattle.std.proofs.Common.{◌≡◌, ℕ, List, [], ◌∷◌, Option, Some, None, refl, sym, ap, ◌∙◌, subst}
 use Rattle.std.specs.Prelude.{Bool, true, false, not, ◌&&◌, ◌||◌, if◌then◌else◌}
 use Rattle.std.specs.List.{list_any, find}
@@ -8,13 +8,8 @@ use Rattle.source_types.specs.Heads.{ClassHead}
 use Rattle.source_types.specs.Supertypes.{has_type, supertypes}
 use Rattle.source_subtypes.specs.Above.{HasTypesAbove}
 use Rattle.je_typing.specs.Castable.{is_of_class}
-use Rattle.field_lookup.specs.Once.{EachClassOnce}
+use Rattle.name_typing.specs.Fields.{if_one_list, is_other_list, only_of_class}
 use Rattle.source_types.proofs.Same.{same-refl, same-equal}
-use Rattle.std.proofs.lemmas.Bool.Decides.{nat_tests}
-use Rattle.std.proofs.Common.{arith}
-use Rattle.je_scopes.specs.SourceTypes.{plain, of_class, of_variable}
-use Rattle.header_typing.specs.Supers.{has_two_lists, is_other_of}
-use Rattle.header_typing.specs.Supers as header
 
 abbrev Test : Type 0
 Test = SourceType → Bool
@@ -53,52 +48,64 @@ none-passes f [] e = refl
 none-passes f (x ∷ xs) e = bool_cases (λ b. (if b then Some x else find f xs) ≡ None → (b || list_any f xs) ≡ false) (f x)
     (λ _ k. absurd cc) (λ _ k. none-passes f xs k) e
 
--- ---- of one class, where each is there once
-
-alike : (c : ℕ) (u v : SourceType) → is_of_class c u ≡ true → is_of_class c v ≡ true → header.is_of_class u v ≡ true
-alike c (plain b n) v e f = absurd cc
-alike c (of_variable d at n) v e f = absurd cc
-alike c (of_class a ts n) (plain b m) e f = absurd cc
-alike c (of_class a ts n) (of_variable d at m) e f = absurd cc
-alike c (of_class a ts n) (of_class b us m) e f = grind (arith, nat_tests)
-
 and-not : (a b : Bool) → a ≡ true → b ≡ false → (a && not b) ≡ true
 and-not true false e f = refl
 and-not true true e f = absurd cc
 and-not false b e f = absurd cc
 
-once : (c : ℕ) (ys : List SourceType) (u v : SourceType) → has_two_lists ys ≡ false → Finds (is_of_class c) ys u → Finds (is_of_class c) ys v → u ≡ v
-once c ys u v e h k = bool_cases (λ b. same_source_type u v ≡ b → u ≡ v) (same_source_type u v)
-    (λ _ s. same-equal u v s)
-    (λ _ s. absurd (
-    let other : is_other_of u v ≡ true = and-not (header.is_of_class u v) (same_source_type u v) (alike c u v h.passes k.passes) s in
-    let two : has_two_lists ys ≡ true = any-has (λ w. list_any (is_other_of w) ys) ys u h.there (any-has (is_other_of u) ys v k.there other) in cc)) refl
+true-false : {b : Bool} → b ≡ true → b ≡ false → ⊥
+true-false e f = cc
 
-module _ (heads : List ClassHead) (t : SourceType) (xs : List SourceType) (c : ℕ) (o : EachClassOnce heads) (h : HasTypesAbove heads t xs) where
-  abbrev ys : List SourceType
-  ys = supertypes heads t
+-- two types differ from both sides
+apart : (u v : SourceType) → same_source_type u v ≡ false → same_source_type v u ≡ false
+apart u v e = bool_cases (λ b. same_source_type v u ≡ b → same_source_type v u ≡ false) (same_source_type v u)
+    (λ _ s. absurd (true-false (subst (λ (w : SourceType). same_source_type w v ≡ true) (same-equal v u s) (same-refl v)) e))
+    (λ _ s. s) refl
 
-  moved : (u : SourceType) → Finds (is_of_class c) xs u → Finds (is_of_class c) (supertypes heads t) u
-  moved u f = record { there = sym (h.each u) ∙ f.there; passes = f.passes }
+-- ---- in lists that have the same types
 
-  one-none : (u : SourceType) → find (is_of_class c) (supertypes heads t) ≡ Some u → find (is_of_class c) xs ≡ None → ⊥
-  one-none u e f =
-      let k = found (is_of_class c) (supertypes heads t) u e in
-      let s : list_any (is_of_class c) xs ≡ true = any-has (is_of_class c) xs u (h.each u ∙ k.there) k.passes in
-      let n : list_any (is_of_class c) xs ≡ false = none-passes (is_of_class c) xs f in cc
+module _ (heads : List ClassHead) (t : SourceType) (xs : List SourceType) (h : HasTypesAbove heads t xs) where
+  moved : (f : Test) (u : SourceType) → Finds f xs u → Finds f (supertypes heads t) u
+  moved f u k = record { there = sym (h.each u) ∙ k.there; passes = k.passes }
 
-  some-none : (u : SourceType) → find (is_of_class c) xs ≡ Some u → find (is_of_class c) (supertypes heads t) ≡ None → ⊥
-  some-none u e f =
-      let k = moved u (found (is_of_class c) xs u e) in
-      let s : list_any (is_of_class c) (supertypes heads t) ≡ true = any-has (is_of_class c) (supertypes heads t) u k.there k.passes in
-      let n : list_any (is_of_class c) (supertypes heads t) ≡ false = none-passes (is_of_class c) (supertypes heads t) f in cc
+  moved-back : (f : Test) (u : SourceType) → Finds f (supertypes heads t) u → Finds f xs u
+  moved-back f u k = record { there = h.each u ∙ k.there; passes = k.passes }
 
-  same : (p q : Option SourceType) → find (is_of_class c) xs ≡ p → find (is_of_class c) (supertypes heads t) ≡ q → p ≡ q
-  same None None e f = refl
-  same None (Some v) e f = absurd (one-none v f e)
-  same (Some u) None e f = absurd (some-none u e f)
-  same (Some u) (Some v) e f = ap Some (once c (supertypes heads t) u v (o.each t) (moved u (found (is_of_class c) xs u e)) (found (is_of_class c) (supertypes heads t) v f))
+  any-there : (f : Test) (p q : Option SourceType) → find f xs ≡ p → find f (supertypes heads t) ≡ q → list_any f xs ≡ list_any f (supertypes heads t)
+  any-there f None None e k = none-passes f xs e ∙ sym (none-passes f (supertypes heads t) k)
+  any-there f (Some u) q e k =
+      let a = found f xs u e in let b = moved f u a in
+      any-has f xs u a.there a.passes ∙ sym (any-has f (supertypes heads t) u b.there b.passes)
+  any-there f None (Some v) e k =
+      let b = found f (supertypes heads t) v k in let a = moved-back f v b in
+      any-has f xs v a.there a.passes ∙ sym (any-has f (supertypes heads t) v b.there b.passes)
 
-pub first_above : (heads : List ClassHead) (t : SourceType) (xs : List SourceType) (c : ℕ) → EachClassOnce heads → HasTypesAbove heads t xs →
-    find (is_of_class c) xs ≡ find (is_of_class c) (supertypes heads t)
-first_above heads t xs c o h = same heads t xs c o h (find (is_of_class c) xs) (find (is_of_class c) (supertypes heads t)) refl refl
+  same-any : (f : Test) → list_any f xs ≡ list_any f (supertypes heads t)
+  same-any f = any-there f (find f xs) (find f (supertypes heads t)) refl refl
+
+  -- another one of the class passes this test
+  other : (c : ℕ) (zs : List SourceType) (u v : SourceType) → same_source_type u v ≡ false → Finds (is_of_class c) zs v →
+      list_any (is_other_list c u) zs ≡ true
+  other c zs u v e k = any-has (is_other_list c u) zs v k.there (and-not (is_of_class c v) (same_source_type u v) k.passes e)
+
+  both-only : (c : ℕ) (u v : SourceType) → Finds (is_of_class c) xs u → Finds (is_of_class c) (supertypes heads t) v →
+      if_one_list c xs (Some u) ≡ if_one_list c (supertypes heads t) (Some v)
+  both-only c u v k l = bool_cases (λ b. same_source_type u v ≡ b → if_one_list c xs (Some u) ≡ if_one_list c (supertypes heads t) (Some v)) (same_source_type u v)
+      (λ _ s. rw (same-equal u v s, same-any (is_other_list c v)) refl)
+      (λ _ s. rw (other c xs u v s (moved-back (is_of_class c) v l), other c (supertypes heads t) v u (apart u v s) (moved (is_of_class c) u k)) refl) refl
+
+  only : (c : ℕ) (p q : Option SourceType) → find (is_of_class c) xs ≡ p → find (is_of_class c) (supertypes heads t) ≡ q →
+      if_one_list c xs p ≡ if_one_list c (supertypes heads t) q
+  only c None None e f = refl
+  only c None (Some v) e f =
+      let k = found (is_of_class c) (supertypes heads t) v f in
+      let b = moved-back (is_of_class c) v k in
+      absurd (true-false (any-has (is_of_class c) xs v b.there b.passes) (none-passes (is_of_class c) xs e))
+  only c (Some u) None e f =
+      let k = moved (is_of_class c) u (found (is_of_class c) xs u e) in
+      absurd (true-false (any-has (is_of_class c) (supertypes heads t) u k.there k.passes) (none-passes (is_of_class c) (supertypes heads t) f))
+  only c (Some u) (Some v) e f = both-only c u v (found (is_of_class c) xs u e) (found (is_of_class c) (supertypes heads t) v f)
+
+pub only_above : (heads : List ClassHead) (t : SourceType) (xs : List SourceType) (c : ℕ) → HasTypesAbove heads t xs →
+    only_of_class c xs ≡ only_of_class c (supertypes heads t)
+only_above heads t xs c h = only heads t xs h c (find (is_of_class c) xs) (find (is_of_class c) (supertypes heads t)) refl refl

@@ -1,20 +1,19 @@
 // The type of a field, seen from a type that has it.
 
 ghost use Rattle.std.specs.Prelude.{◌≡◌, IfOk, Some, map, option_map};
-ghost use Rattle.std.specs.List.{find};
+ghost use Rattle.std.specs.List.{find, list_any};
 ghost use Rattle.declarations.specs.View.{field_shown};
 ghost use Rattle.je_typing.specs.Castable.{is_of_class as the_is_of_class};
 ghost use Rattle.name_types.specs.View.{base_shown, plain_shown, shown};
-ghost use Rattle.name_typing.specs.Fields.{put_in as the_put_in, type_seen as the_type_seen};
+ghost use Rattle.name_typing.specs.Fields.{is_other_list, only_of_class as the_only_of_class, put_in as the_put_in, type_seen as the_type_seen};
 ghost use Rattle.source_subtypes.specs.View.{heads_of};
-ghost use Rattle.field_lookup.specs.Once.{EachClassOnce};
 
 use declarations::FieldDecl;
 use header_steps::class_of;
 use je_base::Memory;
 use je_core::{Base, ClassId};
 use name_types::{SrcBase, SrcTy};
-use source_subtypes::{Arguments, ClassHeads, copied, substituted, supertypes};
+use source_subtypes::{Arguments, ClassHeads, copied, is_same, substituted, supertypes};
 use std::alloc::Global;
 
 #[tactic(auto, using(crate::proofs::Objects::of_class_is))]
@@ -38,6 +37,31 @@ fn first_of_class(types: &[SrcTy], class: ClassId) -> Option<&SrcTy>
         }
     }
     None
+}
+
+// Whether the class has another list of type arguments among these types.
+fn has_other_list(types: &[SrcTy], class: ClassId, ty: &SrcTy) -> bool
+    ensures { result ≡ list_any (is_other_list class.0 (shown ty.now)) (map shown types.now) }
+{
+    for other in types {
+        if is_of_class(other, class) && !is_same(ty, other) {
+            return true;
+        }
+    }
+    false
+}
+
+// The type of a class among these types, where the class has one list of type arguments there.
+fn only_of_class(types: &[SrcTy], class: ClassId) -> Option<&SrcTy>
+    ensures { option_map (λ t. shown t.now) result ≡
+        the_only_of_class class.0 (map shown types.now) }
+{
+    let ty = first_of_class(types, class)?;
+    if has_other_list(types, class, ty) {
+        None
+    } else {
+        Some(ty)
+    }
 }
 
 // A type with the type arguments of another one put in for the variables of its class (JLS 4.5.2).
@@ -87,12 +111,11 @@ pub fn type_seen(
     at: usize,
     field: &FieldDecl,
 ) -> Result<SrcTy, Memory>
-    requires { EachClassOnce (heads_of heads.now) }
     ensures { IfOk result (λ t. shown t ≡ the_type_seen (heads_of heads.now) (shown ty.now)
         (record { class = class; at = at }) (field_shown field.now)) }
 {
     let above = supertypes(alloc, heads, ty)?;
-    match first_of_class(&above, class) {
+    match only_of_class(&above, class) {
         Some(of) => put_in(alloc, of, &field.ty),
         None => copied(alloc, &field.ty),
     }

@@ -1,10 +1,10 @@
 -- The fields that a type has under a name (JLS 4.4, 6.5.6, 8.2, 8.3, 9.3, 10.7), and the type of one of them.
-use Rattle.std.specs.Prelude.{◌≡◌, ℕ, zero, suc, Bool, true, false, not, ◌||◌, List, [], ◌∷◌, Option, Some, None, slice_get, nat_eq, if◌then◌else◌}
-use Rattle.std.specs.List.{Contains, find}
+use Rattle.std.specs.Prelude.{◌≡◌, ℕ, zero, suc, Bool, true, false, not, ◌&&◌, ◌||◌, List, [], ◌∷◌, Option, Some, None, slice_get, nat_eq, if◌then◌else◌}
+use Rattle.std.specs.List.{Contains, find, list_any}
 use Rattle.je_base.specs.declared.span.NameId.{NameId}
 use Rattle.je_classes.specs.Members.{Member, is_private_access, Found, nothing, one, several, IsFound, joined}
 use Rattle.je_scopes.specs.Headers.{same_name, top_of}
-use Rattle.je_scopes.specs.SourceTypes.{SourceType, of_class}
+use Rattle.je_scopes.specs.SourceTypes.{SourceType, of_class, same_source_type}
 use Rattle.source_types.specs.Erasure.{class_numbered}
 use Rattle.source_types.specs.Heads.{ClassHead}
 use Rattle.source_types.specs.Laws.{IsAcyclic}
@@ -91,9 +91,21 @@ abbrev pub put_in : Option SourceType → SourceType → SourceType
 put_in (Some (of_class c args n)) t = substituted c args t
 put_in _ t = t
 
+-- the type of a class among those above a type; none where the class has two lists of type arguments there, which no
+-- header may say (JLS 8.1.5)
+abbrev pub is_other_list : ℕ → SourceType → SourceType → Bool
+is_other_list c t u = is_of_class c u && not (same_source_type t u)
+
+abbrev pub if_one_list : ℕ → List SourceType → Option SourceType → Option SourceType
+if_one_list c types None = None
+if_one_list c types (Some t) = if list_any (is_other_list c t) types then None else Some t
+
+abbrev pub only_of_class : ℕ → List SourceType → Option SourceType
+only_of_class c types = if_one_list c types (find (is_of_class c) types)
+
 -- the type arguments that a class has above a type are put in for its variables (JLS 4.5.2)
 abbrev pub type_seen : List ClassHead → SourceType → Member → DeclaredField → SourceType
-type_seen heads t m f = put_in (find (is_of_class m.class.0) (supertypes heads t)) f.ty
+type_seen heads t m f = put_in (only_of_class m.class.0 (supertypes heads t)) f.ty
 
 -- a private member may be named in the top-level class that it stands in alone (JLS 6.6.1)
 abbrev pub is_accessible : Program → ℕ → Member → DeclaredField → Bool

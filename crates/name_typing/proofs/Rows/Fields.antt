@@ -1,12 +1,12 @@
 -- Worked rows of the fields that a type has under a name.
 use Rattle.std.proofs.Common.{◌≡◌, refl}
-use Rattle.std.specs.Prelude.{[], ◌∷◌, false}
+use Rattle.std.specs.Prelude.{[], ◌∷◌, Some, None, false}
 use Rattle.je_core.specs.declared.program.Access.TheVariants as access
 use Rattle.je_classes.specs.Hierarchy.{object_class, library_class}
 use Rattle.je_classes.specs.Members.{nothing, one, several}
 use Rattle.je_scopes.specs.SourceTypes.{of_class, of_variable, no_source_types}
 use Rattle.source_types.specs.Supertypes.{supertypes}
-use Rattle.name_typing.specs.Fields.{find_field, member, type_seen}
+use Rattle.name_typing.specs.Fields.{find_field, member, only_of_class, type_seen}
 use Rattle.name_typing.proofs.Rows.Parts.{of, string, name, field, heads, classes}
 
 declared_there : find_field heads classes (of 2 []) (name 0) ≡ one (member 2 0)
@@ -57,3 +57,9 @@ arguments_put_in = refl
 variable_in_its_class : type_seen heads (of 5 (of_variable 5 0 0 ∷ [])) (member 5 0) (field 4 (of_variable 5 0 0) false false access.Package) ≡ of_variable 5 0 0
 unfolding supertypes heads object_class library_class
 variable_in_its_class = refl
+
+list_twice : only_of_class 5 (of 5 (string ∷ []) ∷ of 6 [] ∷ of 5 (string ∷ []) ∷ []) ≡ Some (of 5 (string ∷ []))
+list_twice = refl
+
+two_lists : only_of_class 5 (of 5 (string ∷ []) ∷ of 6 [] ∷ of 5 (of 2 [] ∷ []) ∷ []) ≡ None
+two_lists = refl
