@@ -4,7 +4,6 @@
 //! from outside them. So each local that a class captures is handed on to those, round by round, until nothing is new.
 #![tactic(auto)]
 
-mod copying;
 mod kept;
 mod locals;
 mod users;

@@ -8,14 +8,13 @@ ghost use Rattle.known_classes.specs.Known.{captured_local_seen, captured_seen, 
 ghost use Rattle.met_in_bodies.specs.Seen.{met_seen};
 ghost use Rattle.capturing.specs.way.Locals.{is_kept, locals_from, own};
 
-use crate::copying::copied_local;
 use crate::kept::{Kept, all_kept};
 use body_places::{Frame, LocalVariable, Program};
 use indexmap::IndexSet;
 use je_base::Memory;
 use je_core::ClassId;
 use known_classes::CapturedLocal;
-use met_in_bodies::Met;
+use met_in_bodies::{Met, copied_local};
 use std::alloc::Global;
 
 // Those of a body.

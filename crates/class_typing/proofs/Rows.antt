@@ -58,7 +58,7 @@ use Rattle.class_typing.specs.ConstantFields.{constants_of, is_blank, library_co
 use Rattle.class_typing.specs.Constructors.{no_cycle}
 use Rattle.class_typing.specs.Elaboration.{elaborated}
 use Rattle.class_typing.specs.Members.{class_members}
-use Rattle.class_typing.specs.Places.{in_body, round_behind, round_class, round_without_locals}
+use Rattle.class_typing.specs.Places.{in_body, round_met, round_class, round_without_locals}
 use Rattle.class_typing.specs.Programs.{classes, heads, plain_program}
 use Rattle.class_typing.specs.Texts.{texts}
 
@@ -129,13 +129,13 @@ of_guests f judged = do
 -- ---- class A { int f() { return v; } } class B implements A { }: headers come before bodies
 
 a_body : elaborated (program (class_a (returns [] int 2 [] (name_at 3 7) ∷ []) ∷ [])) ≡ breaks UnknownName (at 7)
-unfolding library_words class_words member_words further_words library_class object_class settled sites erased is_subtype supertypes declared_class converted assigned bind check need number_literal literal_of primitive_operation binary superinterface anonymous_super well_placed bounded methods_above inherited may_override good_override good_implementations all_implemented no_clash no_constructor_clash no_inherited_clash bad_modifier class_heads found_field static_field find_field name_before assigned_select select variable_named variable_node taken not_forward assigned_name updated_name simple_name used constructors_in constructor_for anonymous_creation superclass_constructor_call implicit_constructor_call choice chosen class_signatures signatures rows all_due library_declared declared_classes returned_value variable_constant bridges captured_locals captures is_blank constants_of library_constants no_cycle elaborated class_members in_body round_behind round_class round_without_locals classes heads plain_program texts superclass own_constructor_call
+unfolding library_words class_words member_words further_words library_class object_class settled sites erased is_subtype supertypes declared_class converted assigned bind check need number_literal literal_of primitive_operation binary superinterface anonymous_super well_placed bounded methods_above inherited may_override good_override good_implementations all_implemented no_clash no_constructor_clash no_inherited_clash bad_modifier class_heads found_field static_field find_field name_before assigned_select select variable_named variable_node taken not_forward assigned_name updated_name simple_name used constructors_in constructor_for anonymous_creation superclass_constructor_call implicit_constructor_call choice chosen class_signatures signatures rows all_due library_declared declared_classes returned_value variable_constant bridges captured_locals captures is_blank constants_of library_constants no_cycle elaborated class_members in_body round_met round_class round_without_locals classes heads plain_program texts superclass own_constructor_call
 a_body = refl
 
 headers_first : elaborated (program
     (class_a (returns [] int 2 [] (name_at 3 7) ∷ []) ∷ class 1 30 None (more_types (named 0 31 no_types) no_types) []
     ∷ [])) ≡ breaks BadSuper (at 31)
-unfolding library_words class_words member_words further_words library_class object_class settled sites erased is_subtype supertypes declared_class converted assigned bind check need number_literal literal_of primitive_operation binary superinterface anonymous_super well_placed bounded methods_above inherited may_override good_override good_implementations all_implemented no_clash no_constructor_clash no_inherited_clash bad_modifier class_heads found_field static_field find_field name_before assigned_select select variable_named variable_node taken not_forward assigned_name updated_name simple_name used constructors_in constructor_for anonymous_creation superclass_constructor_call implicit_constructor_call choice chosen class_signatures signatures rows all_due library_declared declared_classes returned_value variable_constant bridges captured_locals captures is_blank constants_of library_constants no_cycle elaborated class_members in_body round_behind round_class round_without_locals classes heads plain_program texts superclass own_constructor_call
+unfolding library_words class_words member_words further_words library_class object_class settled sites erased is_subtype supertypes declared_class converted assigned bind check need number_literal literal_of primitive_operation binary superinterface anonymous_super well_placed bounded methods_above inherited may_override good_override good_implementations all_implemented no_clash no_constructor_clash no_inherited_clash bad_modifier class_heads found_field static_field find_field name_before assigned_select select variable_named variable_node taken not_forward assigned_name updated_name simple_name used constructors_in constructor_for anonymous_creation superclass_constructor_call implicit_constructor_call choice chosen class_signatures signatures rows all_due library_declared declared_classes returned_value variable_constant bridges captured_locals captures is_blank constants_of library_constants no_cycle elaborated class_members in_body round_met round_class round_without_locals classes heads plain_program texts superclass own_constructor_call
 headers_first = refl
 
 -- ---- class A { Object f(final int v) { return new Object() { int f() { return v; } }; } }: the class behind `new`
@@ -152,7 +152,7 @@ a_captured_local : of_guests captured
     (tree.new_anonymous (at 40) (named 7 41 no_types) tree.no_expressions
     (members (returns [] int 2 [] (name_at 3 42) ∷ [])) whole) ∷ []) ∷ [])))
     ≡ gives ((0, []) ∷ (1, 9 ∷ 3 ∷ []) ∷ [])
-unfolding library_words class_words member_words further_words library_class object_class settled sites erased is_subtype supertypes declared_class converted assigned bind check need number_literal literal_of primitive_operation binary superinterface anonymous_super well_placed bounded methods_above inherited may_override good_override good_implementations all_implemented no_clash no_constructor_clash no_inherited_clash bad_modifier class_heads found_field static_field find_field name_before assigned_select select variable_named variable_node taken not_forward assigned_name updated_name simple_name used constructors_in constructor_for anonymous_creation superclass_constructor_call implicit_constructor_call choice chosen class_signatures signatures rows all_due library_declared declared_classes returned_value variable_constant bridges captured_locals captures is_blank constants_of library_constants no_cycle elaborated class_members in_body round_behind round_class round_without_locals classes heads plain_program texts superclass own_constructor_call
+unfolding library_words class_words member_words further_words library_class object_class settled sites erased is_subtype supertypes declared_class converted assigned bind check need number_literal literal_of primitive_operation binary superinterface anonymous_super well_placed bounded methods_above inherited may_override good_override good_implementations all_implemented no_clash no_constructor_clash no_inherited_clash bad_modifier class_heads found_field static_field find_field name_before assigned_select select variable_named variable_node taken not_forward assigned_name updated_name simple_name used constructors_in constructor_for anonymous_creation superclass_constructor_call implicit_constructor_call choice chosen class_signatures signatures rows all_due library_declared declared_classes returned_value variable_constant bridges captured_locals captures is_blank constants_of library_constants no_cycle elaborated class_members in_body round_met round_class round_without_locals classes heads plain_program texts superclass own_constructor_call
 a_captured_local = refl
 
 -- ---- class A { int v; static class B { class x { int f() { return v; } } } }: behind B there is no object of A
@@ -168,7 +168,7 @@ static = record { kind = word.Static; span = at 3 } ∷ []
 
 no_instance_behind_a_static_class : elaborated (program (class_a (of_int 3
     ∷ inside static 1 (inside [] 4 (returns [] int 2 [] (name_at 3 42) ∷ []) ∷ []) ∷ []) ∷ [])) ≡ breaks StaticContext (at 42)
-unfolding library_words class_words member_words further_words library_class object_class settled sites erased is_subtype supertypes declared_class converted assigned bind check need number_literal literal_of primitive_operation binary superinterface anonymous_super well_placed bounded methods_above inherited may_override good_override good_implementations all_implemented no_clash no_constructor_clash no_inherited_clash bad_modifier class_heads found_field static_field find_field name_before assigned_select select variable_named variable_node taken not_forward assigned_name updated_name simple_name used constructors_in constructor_for anonymous_creation superclass_constructor_call implicit_constructor_call choice chosen class_signatures signatures rows all_due library_declared declared_classes returned_value variable_constant bridges captured_locals captures is_blank constants_of library_constants no_cycle elaborated class_members in_body round_behind round_class round_without_locals classes heads plain_program texts superclass own_constructor_call
+unfolding library_words class_words member_words further_words library_class object_class settled sites erased is_subtype supertypes declared_class converted assigned bind check need number_literal literal_of primitive_operation binary superinterface anonymous_super well_placed bounded methods_above inherited may_override good_override good_implementations all_implemented no_clash no_constructor_clash no_inherited_clash bad_modifier class_heads found_field static_field find_field name_before assigned_select select variable_named variable_node taken not_forward assigned_name updated_name simple_name used constructors_in constructor_for anonymous_creation superclass_constructor_call implicit_constructor_call choice chosen class_signatures signatures rows all_due library_declared declared_classes returned_value variable_constant bridges captured_locals captures is_blank constants_of library_constants no_cycle elaborated class_members in_body round_met round_class round_without_locals classes heads plain_program texts superclass own_constructor_call
 no_instance_behind_a_static_class = refl
 
 -- ---- class A { int f(final int v) { class B { class x { int f() { return v; } } } return 1; } }: the member class
@@ -182,7 +182,7 @@ captured_by_a_member_of_a_local_class : of_guests captured
     (tree.more_statements (tree.return (at 6) (tree.an_expression (number 1)) whole) tree.no_statements))
     (at 20)) whole ∷ []) ∷ [])))
     ≡ gives ((0, []) ∷ (1, 9 ∷ 3 ∷ []) ∷ (1, 9 ∷ 3 ∷ []) ∷ [])
-unfolding library_words class_words member_words further_words library_class object_class settled sites erased is_subtype supertypes declared_class converted assigned bind check need number_literal literal_of primitive_operation binary superinterface anonymous_super well_placed bounded methods_above inherited may_override good_override good_implementations all_implemented no_clash no_constructor_clash no_inherited_clash bad_modifier class_heads found_field static_field find_field name_before assigned_select select variable_named variable_node taken not_forward assigned_name updated_name simple_name used constructors_in constructor_for anonymous_creation superclass_constructor_call implicit_constructor_call choice chosen class_signatures signatures rows all_due library_declared declared_classes returned_value variable_constant bridges captured_locals captures is_blank constants_of library_constants no_cycle elaborated class_members in_body round_behind round_class round_without_locals classes heads plain_program texts superclass own_constructor_call local_class
+unfolding library_words class_words member_words further_words library_class object_class settled sites erased is_subtype supertypes declared_class converted assigned bind check need number_literal literal_of primitive_operation binary superinterface anonymous_super well_placed bounded methods_above inherited may_override good_override good_implementations all_implemented no_clash no_constructor_clash no_inherited_clash bad_modifier class_heads found_field static_field find_field name_before assigned_select select variable_named variable_node taken not_forward assigned_name updated_name simple_name used constructors_in constructor_for anonymous_creation superclass_constructor_call implicit_constructor_call choice chosen class_signatures signatures rows all_due library_declared declared_classes returned_value variable_constant bridges captured_locals captures is_blank constants_of library_constants no_cycle elaborated class_members in_body round_met round_class round_without_locals classes heads plain_program texts superclass own_constructor_call local_class
 captured_by_a_member_of_a_local_class = refl
 
 -- ---- class A { int f(int v) { class B { static final int x = 5; } switch (v) { case B.x: } return 1; } }: the constants
@@ -202,7 +202,7 @@ a_constant_of_a_local_class : of_guests captured
     (tree.more_statements (tree.return (at 6) (tree.an_expression (number 1)) whole) tree.no_statements)))
     (at 20)) whole ∷ []) ∷ [])))
     ≡ gives ((0, []) ∷ (0, 9 ∷ 4 ∷ []) ∷ [])
-unfolding library_words class_words member_words further_words library_class object_class settled sites erased is_subtype supertypes declared_class converted assigned bind check need number_literal literal_of primitive_operation binary superinterface anonymous_super well_placed bounded methods_above inherited may_override good_override good_implementations all_implemented no_clash no_constructor_clash no_inherited_clash bad_modifier class_heads found_field static_field find_field name_before assigned_select select variable_named variable_node taken not_forward assigned_name updated_name simple_name used constructors_in constructor_for anonymous_creation superclass_constructor_call implicit_constructor_call choice chosen class_signatures signatures rows all_due library_declared declared_classes returned_value variable_constant bridges captured_locals captures is_blank constants_of library_constants no_cycle elaborated class_members in_body round_behind round_class round_without_locals classes heads plain_program texts superclass own_constructor_call local_class next_label selector
+unfolding library_words class_words member_words further_words library_class object_class settled sites erased is_subtype supertypes declared_class converted assigned bind check need number_literal literal_of primitive_operation binary superinterface anonymous_super well_placed bounded methods_above inherited may_override good_override good_implementations all_implemented no_clash no_constructor_clash no_inherited_clash bad_modifier class_heads found_field static_field find_field name_before assigned_select select variable_named variable_node taken not_forward assigned_name updated_name simple_name used constructors_in constructor_for anonymous_creation superclass_constructor_call implicit_constructor_call choice chosen class_signatures signatures rows all_due library_declared declared_classes returned_value variable_constant bridges captured_locals captures is_blank constants_of library_constants no_cycle elaborated class_members in_body round_met round_class round_without_locals classes heads plain_program texts superclass own_constructor_call local_class next_label selector
 a_constant_of_a_local_class = refl
 
 -- ---- class A { static final int x = A.y + 1; static final int y = 2; }, and with A.x for 2
@@ -227,13 +227,13 @@ constants c = map is_constant c.fields
 by_a_later_one : of_guests constants
     (elaborated (program (class_a (constant 4 (next (of_a 5)) ∷ constant 5 (number 2) ∷ []) ∷ []))) ≡ gives
     ((true ∷ true ∷ []) ∷ [])
-unfolding library_words class_words member_words further_words library_class object_class settled sites erased is_subtype supertypes declared_class converted assigned bind check need number_literal literal_of primitive_operation binary superinterface anonymous_super well_placed bounded methods_above inherited may_override good_override good_implementations all_implemented no_clash no_constructor_clash no_inherited_clash bad_modifier class_heads found_field static_field find_field name_before assigned_select select variable_named variable_node taken not_forward assigned_name updated_name simple_name used constructors_in constructor_for anonymous_creation superclass_constructor_call implicit_constructor_call choice chosen class_signatures signatures rows all_due library_declared declared_classes returned_value variable_constant bridges captured_locals captures is_blank constants_of library_constants no_cycle elaborated class_members in_body round_behind round_class round_without_locals classes heads plain_program texts superclass own_constructor_call
+unfolding library_words class_words member_words further_words library_class object_class settled sites erased is_subtype supertypes declared_class converted assigned bind check need number_literal literal_of primitive_operation binary superinterface anonymous_super well_placed bounded methods_above inherited may_override good_override good_implementations all_implemented no_clash no_constructor_clash no_inherited_clash bad_modifier class_heads found_field static_field find_field name_before assigned_select select variable_named variable_node taken not_forward assigned_name updated_name simple_name used constructors_in constructor_for anonymous_creation superclass_constructor_call implicit_constructor_call choice chosen class_signatures signatures rows all_due library_declared declared_classes returned_value variable_constant bridges captured_locals captures is_blank constants_of library_constants no_cycle elaborated class_members in_body round_met round_class round_without_locals classes heads plain_program texts superclass own_constructor_call
 by_a_later_one = refl
 
 by_each_other : of_guests constants
     (elaborated (program (class_a (constant 4 (next (of_a 5)) ∷ constant 5 (of_a 4) ∷ []) ∷ []))) ≡ gives
     ((false ∷ false ∷ []) ∷ [])
-unfolding library_words class_words member_words further_words library_class object_class settled sites erased is_subtype supertypes declared_class converted assigned bind check need number_literal literal_of primitive_operation binary superinterface anonymous_super well_placed bounded methods_above inherited may_override good_override good_implementations all_implemented no_clash no_constructor_clash no_inherited_clash bad_modifier class_heads found_field static_field find_field name_before assigned_select select variable_named variable_node taken not_forward assigned_name updated_name simple_name used constructors_in constructor_for anonymous_creation superclass_constructor_call implicit_constructor_call choice chosen class_signatures signatures rows all_due library_declared declared_classes returned_value variable_constant bridges captured_locals captures is_blank constants_of library_constants no_cycle elaborated class_members in_body round_behind round_class round_without_locals classes heads plain_program texts superclass own_constructor_call
+unfolding library_words class_words member_words further_words library_class object_class settled sites erased is_subtype supertypes declared_class converted assigned bind check need number_literal literal_of primitive_operation binary superinterface anonymous_super well_placed bounded methods_above inherited may_override good_override good_implementations all_implemented no_clash no_constructor_clash no_inherited_clash bad_modifier class_heads found_field static_field find_field name_before assigned_select select variable_named variable_node taken not_forward assigned_name updated_name simple_name used constructors_in constructor_for anonymous_creation superclass_constructor_call implicit_constructor_call choice chosen class_signatures signatures rows all_due library_declared declared_classes returned_value variable_constant bridges captured_locals captures is_blank constants_of library_constants no_cycle elaborated class_members in_body round_met round_class round_without_locals classes heads plain_program texts superclass own_constructor_call
 by_each_other = refl
 
 -- ---- class A { A() { this(1); } A(int v) { this(); } }, and with `super()`
@@ -249,7 +249,7 @@ constructors_in_a_cycle : elaborated
     (program (class_a (constructor [] false 50 one_argument ∷ constructor (formal int false ∷ []) false 51
     tree.no_expressions ∷ []) ∷ []))
     ≡ breaks CtorCycle (at 50)
-unfolding library_words class_words member_words further_words library_class object_class settled sites erased is_subtype supertypes declared_class converted assigned bind check need number_literal literal_of primitive_operation binary superinterface anonymous_super well_placed bounded methods_above inherited may_override good_override good_implementations all_implemented no_clash no_constructor_clash no_inherited_clash bad_modifier class_heads found_field static_field find_field name_before assigned_select select variable_named variable_node taken not_forward assigned_name updated_name simple_name used constructors_in constructor_for anonymous_creation superclass_constructor_call implicit_constructor_call choice chosen class_signatures signatures rows all_due library_declared declared_classes returned_value variable_constant bridges captured_locals captures is_blank constants_of library_constants no_cycle elaborated class_members in_body round_behind round_class round_without_locals classes heads plain_program texts superclass own_constructor_call
+unfolding library_words class_words member_words further_words library_class object_class settled sites erased is_subtype supertypes declared_class converted assigned bind check need number_literal literal_of primitive_operation binary superinterface anonymous_super well_placed bounded methods_above inherited may_override good_override good_implementations all_implemented no_clash no_constructor_clash no_inherited_clash bad_modifier class_heads found_field static_field find_field name_before assigned_select select variable_named variable_node taken not_forward assigned_name updated_name simple_name used constructors_in constructor_for anonymous_creation superclass_constructor_call implicit_constructor_call choice chosen class_signatures signatures rows all_due library_declared declared_classes returned_value variable_constant bridges captured_locals captures is_blank constants_of library_constants no_cycle elaborated class_members in_body round_met round_class round_without_locals classes heads plain_program texts superclass own_constructor_call
 constructors_in_a_cycle = refl
 
 -- ---- class A implements Comparable<A> { public int compareTo(A v) { return 1; } }: the method of the erased
@@ -269,5 +269,5 @@ a_bridge : of_guests bridged (elaborated (program (
     (returns public int 6 (formal (named 0 32 no_types) false ∷ []) (number 1) ∷ [])
     ∷ class 1 33 (Some (named 0 34 no_types)) no_types [] ∷ [])))
     ≡ gives (((0, 0) ∷ []) ∷ ((0, 0) ∷ []) ∷ [])
-unfolding library_words class_words member_words further_words library_class object_class settled sites erased is_subtype supertypes declared_class converted assigned bind check need number_literal literal_of primitive_operation binary superinterface anonymous_super well_placed bounded methods_above inherited may_override good_override good_implementations all_implemented no_clash no_constructor_clash no_inherited_clash bad_modifier class_heads found_field static_field find_field name_before assigned_select select variable_named variable_node taken not_forward assigned_name updated_name simple_name used constructors_in constructor_for anonymous_creation superclass_constructor_call implicit_constructor_call choice chosen class_signatures signatures rows all_due library_declared declared_classes returned_value variable_constant bridges captured_locals captures is_blank constants_of library_constants no_cycle elaborated class_members in_body round_behind round_class round_without_locals classes heads plain_program texts superclass own_constructor_call
+unfolding library_words class_words member_words further_words library_class object_class settled sites erased is_subtype supertypes declared_class converted assigned bind check need number_literal literal_of primitive_operation binary superinterface anonymous_super well_placed bounded methods_above inherited may_override good_override good_implementations all_implemented no_clash no_constructor_clash no_inherited_clash bad_modifier class_heads found_field static_field find_field name_before assigned_select select variable_named variable_node taken not_forward assigned_name updated_name simple_name used constructors_in constructor_for anonymous_creation superclass_constructor_call implicit_constructor_call choice chosen class_signatures signatures rows all_due library_declared declared_classes returned_value variable_constant bridges captured_locals captures is_blank constants_of library_constants no_cycle elaborated class_members in_body round_met round_class round_without_locals classes heads plain_program texts superclass own_constructor_call
 a_bridge = refl

@@ -21,27 +21,23 @@ use Rattle.class_typing.specs.Captures.{captured_locals, captures}
 use Rattle.class_typing.specs.Classes.{core_class}
 use Rattle.class_typing.specs.ConstantFields.{constants_of, constants_shifted, is_blank, library_constants}
 use Rattle.class_typing.specs.Members.{MembersDone, class_members}
-use Rattle.class_typing.specs.Places.{is_placed, round_behind, round_without_locals}
+use Rattle.class_typing.specs.Places.{is_placed, round_met}
 use Rattle.class_typing.specs.Programs.{CapturedLocal, classes, hidden_fields, library_count, number, plain_program}
 use Rattle.class_typing.specs.Texts.{texts}
 
 -- ---- what bodies are judged by
-
--- the bodies round each class, and the fields that are constant variables, as far as they are told
-pub record Told : Type 0 where
-  pub round : ℕ → List Frame
-  pub constants : Member → Option Constant
 
 -- the program, and what is known beside it
 pub record World : Type 0 where
   pub program : Program
   pub known : Known
 
--- what the members of classes come to, class by class, what was met in all of them, and what is told behind them
+-- what the members of classes come to, class by class, what was met in all of them, and the fields that are constant
+-- variables, as far as that is told behind them
 pub record BodiesDone : Type 0 where
   pub classes : List MembersDone
   pub met : List Met
-  pub told : Told
+  pub constants : Member → Option Constant
 
 abbrev pub one_more : MembersDone → BodiesDone → BodiesDone
 one_more d rest = record rest { classes = d ∷ rest.classes }
@@ -60,29 +56,21 @@ module _ (source : Source) where
   abbrev pub with_constants : Program → (Member → Option Constant) → Program
   with_constants p constants = record p { constants = constants }
 
-  -- ---- where classes stand, and their constants: of one that stands in a body, by its locals, when that body was
-  -- walked, and without them before
+  -- ---- constants: of a class that stands in a body, by its locals, when that body was walked, and without them before
 
-  abbrev pub constants_told : (ℕ → Bool) → (ℕ → List Frame) → (Member → Option Constant) → Member → Option Constant
-  constants_told is_asked round known =
-      constants_of first_program (hidden_count nothing_captured) round is_asked known
+  abbrev pub constants_told : (ℕ → Bool) → List Met → (Member → Option Constant) → Member → Option Constant
+  constants_told is_asked met known =
+      constants_of first_program (hidden_count nothing_captured) (round_met source.sites met) is_asked known
 
   abbrev pub is_guest_class : ℕ → Bool
   is_guest_class c = is_guest (site_at source.sites c).written
 
-  abbrev pub told_first : Told
-  told_first = record {
-    round = round_without_locals source.sites;
-    constants =
-        constants_told is_guest_class (round_without_locals source.sites) (library_constants source);
-  }
+  abbrev pub constants_first : Member → Option Constant
+  constants_first = constants_told is_guest_class [] (library_constants source)
 
-  abbrev pub told_behind : Told → List Met → Told
-  told_behind told met = record {
-    round = round_behind source.sites met told.round;
-    constants =
-        constants_told (is_placed source.sites met) (round_behind source.sites met told.round) told.constants;
-  }
+  -- of the classes that stand where something was met newly, behind what was met before it
+  abbrev pub constants_behind : List Met → List Met → (Member → Option Constant) → Member → Option Constant
+  constants_behind met new known = constants_told (is_placed source.sites new) (met ++ new) known
 
   -- ---- headers and signatures (JLS 8, 9), where no locals round a class are known
 
@@ -108,8 +96,9 @@ module _ (source : Source) where
 
   -- ---- bodies
 
-  abbrev pub members_of : World → (ℕ → List CapturedLocal) → (ℕ → List Frame) → List Met → ℕ → Judged MembersDone
-  members_of w captured round met c = class_members w.program w.known c (round c) met (hidden_count captured c)
+  abbrev pub members_of : World → (ℕ → List CapturedLocal) → List Met → ℕ → Judged MembersDone
+  members_of w captured met c =
+      class_members w.program w.known c (round_met source.sites met c) met (hidden_count captured c)
 
   abbrev pub guest_count : ℕ
   guest_count = length source.sites - library_count source
@@ -119,9 +108,9 @@ module _ (source : Source) where
   abbrev pub nothing_round : ℕ → List Frame
   nothing_round c = []
 
-  abbrev pub first_world : Told → World
-  first_world told =
-      let p = with_constants first_program told.constants in
+  abbrev pub first_world : (Member → Option Constant) → World
+  first_world constants =
+      let p = with_constants first_program constants in
       record {
         program = p;
         known = record {
@@ -131,41 +120,41 @@ module _ (source : Source) where
       }
 
   -- of so many classes from one on, behind what was met in those before it
-  abbrev pub bodies_from : Told → List Met → ℕ → ℕ → Judged BodiesDone
-  bodies_from told met c zero = gives (record { classes = []; met = met; told = told })
-  bodies_from told met c (suc n) = do
-    d ← members_of (first_world told) nothing_captured told.round met c
-    rest ← bodies_from (told_behind told d.met) (met ++ d.met) (suc c) n
+  abbrev pub bodies_from : (Member → Option Constant) → List Met → ℕ → ℕ → Judged BodiesDone
+  bodies_from constants met c zero = gives (record { classes = []; met = met; constants = constants })
+  bodies_from constants met c (suc n) = do
+    d ← members_of (first_world constants) nothing_captured met c
+    rest ← bodies_from (constants_behind met d.met constants) (met ++ d.met) (suc c) n
     gives (one_more d rest)
 
   abbrev pub first_bodies : Judged BodiesDone
-  first_bodies = bodies_from told_first [] (library_count source) guest_count
+  first_bodies = bodies_from constants_first [] (library_count source) guest_count
 
   -- the second one, for the code, where it is known what each class captures
 
   abbrev pub captured_count : (ℕ → List CapturedLocal) → ℕ → ℕ
   captured_count captured c = length (captured c)
 
-  abbrev pub whole_program : (ℕ → List CapturedLocal) → Told → Program
-  whole_program captured told =
-      with_constants (plain_program source captured) (constants_shifted (captured_count captured) told.constants)
+  abbrev pub whole_program : (ℕ → List CapturedLocal) → BodiesDone → Program
+  whole_program captured first =
+      with_constants (plain_program source captured) (constants_shifted (captured_count captured) first.constants)
 
-  abbrev pub whole_world : (ℕ → List CapturedLocal) → Told → World
-  whole_world captured told =
-      let p = whole_program captured told in
+  abbrev pub whole_world : (ℕ → List CapturedLocal) → BodiesDone → World
+  whole_world captured first =
+      let p = whole_program captured first in
       record {
         program = p;
         known = record {
-          captures = captures p captured told.round;
+          captures = captures p captured (round_met source.sites first.met);
           is_blank = is_blank p (hidden_count captured);
         };
       }
 
-  abbrev pub bodies_again : World → (ℕ → List CapturedLocal) → BodiesDone → ℕ → ℕ → Judged (List MembersDone)
-  bodies_again w captured first c zero = gives []
-  bodies_again w captured first c (suc n) = do
-    d ← members_of w captured first.told.round first.met c
-    rest ← bodies_again w captured first (suc c) n
+  abbrev pub bodies_again : World → (ℕ → List CapturedLocal) → List Met → ℕ → ℕ → Judged (List MembersDone)
+  bodies_again w captured met c zero = gives []
+  bodies_again w captured met c (suc n) = do
+    d ← members_of w captured met c
+    rest ← bodies_again w captured met (suc c) n
     gives (d ∷ rest)
 
   -- ---- the core program
@@ -179,11 +168,11 @@ module _ (source : Source) where
 
   abbrev pub with_captures : (ℕ → List CapturedLocal) → BodiesDone → Judged CoreProgram
   with_captures captured first = do
-    classes ← bodies_again (whole_world captured first.told) captured first (library_count source) guest_count
-    gives (core_program (core_classes (whole_program captured first.told) captured (library_count source) classes))
+    classes ← bodies_again (whole_world captured first) captured first.met (library_count source) guest_count
+    gives (core_program (core_classes (whole_program captured first) captured (library_count source) classes))
 
   unfoldable pub elaborated : Judged CoreProgram
   elaborated = do
-    signatures (setting ((first_world told_first).program))
+    signatures (setting ((first_world constants_first).program))
     first ← first_bodies
-    with_captures (captured_locals first_program first.met first.told.round) first
+    with_captures (captured_locals first_program first.met (round_met source.sites first.met)) first

@@ -64,7 +64,7 @@ module _ (sites : List Site) where
   unfoldable pub round_class : List Frame → ℕ → List Frame
   round_class given c = bodies_round given c (site_at sites c).spot.round
 
-  -- ---- behind what was met newly
+  -- ---- by what was met
 
   abbrev pub met_at : List Met → Option ℕ → Option Met
   met_at met None = None
@@ -77,9 +77,10 @@ module _ (sites : List Site) where
   abbrev pub is_placed : List Met → ℕ → Bool
   is_placed met c = is_some (placed_by met c)
 
-  abbrev pub round_if : Option Met → (ℕ → List Frame) → ℕ → List Frame
-  round_if None round c = round c
-  round_if (Some m) round c = round_class (frames_met m) c
+  -- where it isn't told, no locals are known
+  abbrev pub round_if : Option Met → ℕ → List Frame
+  round_if None c = round_without_locals c
+  round_if (Some m) c = round_class (frames_met m) c
 
-  unfoldable pub round_behind : List Met → (ℕ → List Frame) → ℕ → List Frame
-  round_behind met round c = round_if (placed_by met c) round c
+  unfoldable pub round_met : List Met → ℕ → List Frame
+  round_met met c = round_if (placed_by met c) c

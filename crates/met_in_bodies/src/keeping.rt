@@ -1,4 +1,4 @@
-// Scopes that are kept.
+// Locals, bodies and scopes that are kept.
 
 ghost use Rattle.std.specs.Prelude.{◌≡◌, IfOk, map, option_map};
 ghost use Rattle.body_places.specs.Places.{frame_seen, local_seen};
@@ -36,7 +36,8 @@ fn copied_constant_if(
     }
 }
 
-fn copied_local(alloc: Global, local: &LocalVariable) -> Result<LocalVariable, Memory>
+/// The same local once more.
+pub fn copied_local(alloc: Global, local: &LocalVariable) -> Result<LocalVariable, Memory>
     ensures { IfOk result (λ v. local_seen v ≡ local_seen local.now) }
 {
     let ty = copied(alloc, &local.ty)?;
@@ -74,7 +75,8 @@ fn copied_frame(alloc: Global, frame: &Frame) -> Result<Frame, Memory>
     })
 }
 
-fn copied_frames(alloc: Global, frames: &[Frame]) -> Result<Vec<Frame>, Memory>
+/// The same bodies once more.
+pub fn copied_frames(alloc: Global, frames: &[Frame]) -> Result<Vec<Frame>, Memory>
     ensures { IfOk result (λ fs. map frame_seen fs.items ≡ map frame_seen frames.now) }
 {
     let mut copies = Vec::new(alloc);
