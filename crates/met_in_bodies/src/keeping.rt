@@ -61,7 +61,8 @@ fn copied_locals(alloc: Global, locals: &[LocalVariable]) -> Result<Vec<LocalVar
     Ok(copies)
 }
 
-fn copied_frame(alloc: Global, frame: &Frame) -> Result<Frame, Memory>
+/// The same body once more.
+pub fn copied_frame(alloc: Global, frame: &Frame) -> Result<Frame, Memory>
     ensures { IfOk result (λ f. frame_seen f ≡ frame_seen frame.now) }
 {
     let locals = copied_locals(alloc, &frame.locals)?;

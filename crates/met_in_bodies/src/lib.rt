@@ -9,6 +9,6 @@ mod keeping;
 mod met;
 mod walk;
 
-pub use keeping::{copied_frames, copied_local, standing};
+pub use keeping::{copied_frame, copied_frames, copied_local, standing};
 pub use met::{Met, Standing};
 pub use walk::{add_all_met, add_met};
