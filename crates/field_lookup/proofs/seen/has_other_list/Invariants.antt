@@ -6,4 +6,4 @@ use Rattle.field_lookup.proofs.seen.has_other_list.Given as goal
 
 abbrev pub invariant-loop-other : goal.invariant-loop-other
 invariant-loop-other l =
-    list_any (is_other_list l.class.0 (shown l.ty.now)) (map shown (drop l.other-index l.types)) ≡ list_any (is_other_list l.class.0 (shown l.ty.now)) (map shown l.types)
+    list_any (is_other_list l.class.0 (shown l.ty)) (map shown (drop l.other-index l.types)) ≡ list_any (is_other_list l.class.0 (shown l.ty)) (map shown l.types)
