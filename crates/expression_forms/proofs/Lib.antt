@@ -1,0 +1,4 @@
+pub mod Assigning
+pub mod Before
+pub mod Spans
+pub mod Types
