@@ -40,19 +40,19 @@ adds-same R T a b g from to = record {
 
 -- ---- one user of one class
 
-get-set-same : {A : Type 0} (xs : List A) (i : ℕ) (x : A) → i < length xs → slice_get (set xs i x) i ≡ Some x
+pub get-set-same : {A : Type 0} (xs : List A) (i : ℕ) (x : A) → i < length xs → slice_get (set xs i x) i ≡ Some x
 get-set-same [] i x l = absurd (omega arith)
 get-set-same (y ∷ xs) zero x l = refl
 get-set-same (y ∷ xs) (suc i) x l = get-set-same xs i x (omega arith)
 
-get-set-other : {A : Type 0} (xs : List A) (i k : ℕ) (x : A) → k ≢ i → slice_get (set xs i x) k ≡ slice_get xs k
+pub get-set-other : {A : Type 0} (xs : List A) (i k : ℕ) (x : A) → k ≢ i → slice_get (set xs i x) k ≡ slice_get xs k
 get-set-other [] i k x n = refl
 get-set-other (y ∷ xs) zero zero x n = absurd (n refl)
 get-set-other (y ∷ xs) zero (suc k) x n = refl
 get-set-other (y ∷ xs) (suc i) zero x n = refl
 get-set-other (y ∷ xs) (suc i) (suc k) x n = get-set-other xs i k x (λ e. n (ap suc e))
 
-length-set-same : {A : Type 0} (xs : List A) (i : ℕ) (x : A) → length (set xs i x) ≡ length xs
+pub length-set-same : {A : Type 0} (xs : List A) (i : ℕ) (x : A) → length (set xs i x) ≡ length xs
 length-set-same [] i x = refl
 length-set-same (y ∷ xs) zero x = refl
 length-set-same (y ∷ xs) (suc i) x = ap suc (length-set-same xs i x)

@@ -1,0 +1,11 @@
+use Rattle.std.proofs.Common.{◌≡◌, ◌++◌, map}
+use Rattle.name_sites.specs.View.{source_of}
+use Rattle.body_places.specs.Places.{frame_seen}
+use Rattle.class_typing.specs.Places.{round_without_locals}
+use Rattle.class_places.proofs.rounds.round_without_locals.Given as goal
+
+abbrev pub invariant-loop-round : goal.invariant-loop-round
+invariant-loop-round l = map frame_seen l.bodies.items ++ round_without_locals (source_of l.sites).sites l.here.0 ≡ round_without_locals (source_of l.sites).sites l.fn.class.0
+
+abbrev pub decreases-loop-round : goal.decreases-loop-round
+decreases-loop-round l = l.here.0
