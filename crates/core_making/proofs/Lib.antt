@@ -1,0 +1,5 @@
+pub mod Declared
+pub mod Heads
+pub mod HiddenFields
+pub mod Made
+pub mod Numbers
