@@ -119,6 +119,15 @@ impl<'a> Scope<'a> {
         keep_last(&mut self.given, depth.given);
     }
 
+    /// Takes away the local classes that have been added since the scope had that depth (JLS 6.3: behind a group of a
+    /// `switch`, whose locals are in scope in those that follow).
+    pub fn leave_classes(&mut self, depth: Depth)
+        ensures { (before : Seen) → Extends before (scope_seen self.old) → IsDepthOf depth before →
+            scope_seen self.new ≡ with_classes_of before (scope_seen self.old) }
+    {
+        keep_last(&mut self.here.local_classes, depth.classes);
+    }
+
     /// Takes away what has been added since the scope had that depth.
     pub fn leave(&mut self, depth: Depth)
         ensures { (before : Seen) → Extends before (scope_seen self.old) → IsDepthOf depth before →
