@@ -1,7 +1,8 @@
 -- Worked rows of whole programs: which fault is the first, what classes capture, constant fields, constructors that
 -- call each other, and methods that are reached through others.
 use Rattle.std.proofs.Common.{◌≡◌, refl, ℕ, List}
-use Rattle.std.specs.Prelude.{◌+◌, Bool, true, false, [], ◌∷◌, Option, Some, None, pos, codes, drop, is_some, length, map}
+use Rattle.std.specs.Prelude.{◌+◌, Bool, true, false, [], ◌∷◌, Option, Some, None, pos, codes, drop, flat_map, is_some, length, map}
+use Rattle.std.specs.Str.{chars}
 use Rattle.je_base.specs.declared.span.Span.{Span}
 use Rattle.je_core.specs.declared.program.Bridge.{Bridge}
 use Rattle.je_core.specs.Core.{CoreClass, CoreField, CoreProgram}
@@ -60,7 +61,8 @@ use Rattle.class_typing.specs.Elaboration.{elaborated}
 use Rattle.class_typing.specs.Members.{class_members}
 use Rattle.class_typing.specs.Places.{in_body, round_met, round_class, round_without_locals}
 use Rattle.class_typing.specs.Programs.{classes, heads, plain_program}
-use Rattle.class_typing.specs.Texts.{texts}
+use Rattle.class_typing.specs.Enums.{constants_made}
+use Rattle.class_typing.specs.Texts.{initializer_texts, texts, units_of}
 
 abbrev at : ℕ → Span
 at n = record { file = 0; start = n; end = n + 1 }
@@ -271,3 +273,11 @@ a_bridge : of_guests bridged (elaborated (program (
     ≡ gives (((0, 0) ∷ []) ∷ ((0, 0) ∷ []) ∷ [])
 unfolding library_words class_words member_words further_words library_class object_class settled sites erased is_subtype supertypes declared_class converted assigned bind check need number_literal literal_of primitive_operation binary superinterface anonymous_super well_placed bounded methods_above inherited may_override good_override good_implementations all_implemented no_clash no_constructor_clash no_inherited_clash bad_modifier class_heads found_field static_field find_field name_before assigned_select select variable_named variable_node taken not_forward assigned_name updated_name simple_name used constructors_in constructor_for anonymous_creation superclass_constructor_call implicit_constructor_call choice chosen class_signatures signatures rows all_due library_declared declared_classes returned_value variable_constant bridges captured_locals captures is_blank constants_of library_constants no_cycle elaborated class_members in_body round_met round_class round_without_locals classes heads plain_program texts superclass own_constructor_call
 a_bridge = refl
+
+-- ---- a constant of letters beyond ASCII, U+00E9 and U+1D538, is made with the UTF-16 units of its name
+
+beyond_ascii : map units_of (flat_map initializer_texts (constants_made (λ w. record { 0 = 0 })
+    ((0xC3 ∷ 0xA9 ∷ 0xF0 ∷ 0x9D ∷ 0x94 ∷ 0xB8 ∷ []) ∷ []) 0 (at 1) (id 0 2 ∷ []) 0 (id 0 2 ∷ [])))
+    ≡ (0xE9 ∷ 0xD835 ∷ 0xDD38 ∷ []) ∷ []
+unfolding chars
+beyond_ascii = refl

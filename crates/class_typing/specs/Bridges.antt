@@ -1,28 +1,35 @@
 -- Methods that are reached through others (JLS 8.4.8, 15.12.4.5): where a class has for a method one with the same
 -- parameter types, whose erasures are others, a call of the first runs the second.
 use Rattle.std.specs.Prelude.{ℕ, Bool, not, ◌&&◌, ◌||◌, List, [], ◌∷◌, map, filter, flat_map, Option, Some, None, nat_lt, nat_eq, if◌then◌else◌}
-use Rattle.std.specs.List.{find}
+use Rattle.std.specs.List.{find, list_any}
 use Rattle.je_core.specs.declared.program.Bridge.{Bridge}
 use Rattle.je_core.specs.declared.types.Ty.{Ty}
 use Rattle.je_classes.specs.Subtypes.{same_types}
 use Rattle.source_types.specs.Erasure.{class_numbered, erased}
 use Rattle.source_types.specs.Heads.{ClassHead}
 use Rattle.declarations.specs.Declarations.{DeclaredClass}
-use Rattle.overriding.specs.Methods.{Method, has_method, is_subsignature, methods_above}
+use Rattle.overriding.specs.Methods.{Method, is_subsignature, methods_above}
 use Rattle.overriding.specs.Overrides.{has_methods}
 
--- in order of the classes that declare them, and of their places there
-abbrev pub stands_before : Method → Method → Bool
-stands_before m n = nat_lt m.holder n.holder || (nat_eq m.holder n.holder && nat_lt m.place n.place)
+-- where a method is declared: the class, and the place there
+abbrev pub place_of : Method → ℕ × ℕ
+place_of m = (m.holder, m.place)
 
-abbrev pub inserted : Method → List Method → List Method
-inserted m [] = m ∷ []
-inserted m (n ∷ ns) = if stands_before m n then m ∷ n ∷ ns else n ∷ inserted m ns
+abbrev pub is_same_place : ℕ × ℕ → ℕ × ℕ → Bool
+is_same_place p q = nat_eq p.0 q.0 && nat_eq p.1 q.1
+
+-- in order of the classes, and of the places there
+abbrev pub stands_before : ℕ × ℕ → ℕ × ℕ → Bool
+stands_before p q = nat_lt p.0 q.0 || (nat_eq p.0 q.0 && nat_lt p.1 q.1)
+
+abbrev pub inserted : ℕ × ℕ → List (ℕ × ℕ) → List (ℕ × ℕ)
+inserted p [] = p ∷ []
+inserted p (q ∷ qs) = if stands_before p q then p ∷ q ∷ qs else q ∷ inserted p qs
 
 -- each once
-abbrev pub sorted : List Method → List Method
+abbrev pub sorted : List (ℕ × ℕ) → List (ℕ × ℕ)
 sorted [] = []
-sorted (m ∷ ms) = if has_method ms m then sorted ms else inserted m (sorted ms)
+sorted (p ∷ ps) = if list_any (is_same_place p) ps then sorted ps else inserted p (sorted ps)
 
 module _ (heads : List ClassHead) (classes : List DeclaredClass) (c : ℕ) where
   abbrev pub erased_parameters : Method → List Ty
@@ -38,14 +45,20 @@ module _ (heads : List ClassHead) (classes : List DeclaredClass) (c : ℕ) where
   abbrev pub is_instance_method : Method → Bool
   is_instance_method n = not n.declared.flags.is_static
 
-  abbrev pub bridge_to : Method → Option Method → List Bridge
-  bridge_to n None = []
-  bridge_to n (Some m) =
-      record { method = (class_numbered n.holder, n.place); by = (class_numbered m.holder, m.place) } ∷ []
+  -- those that classes above it declare, as it sees them
+  abbrev pub instance_methods : List Method
+  instance_methods = filter is_instance_method (methods_above heads classes c)
 
-  abbrev pub bridge_from : Method → List Bridge
-  bridge_from n = bridge_to n (find (runs_for n) (has_methods heads classes c))
+  abbrev pub runs_for_place : ℕ × ℕ → Method → Bool
+  runs_for_place at m = list_any (λ n. is_same_place at (place_of n) && runs_for n m) instance_methods
 
-  -- of all methods that classes above it declare
+  abbrev pub bridge_to : ℕ × ℕ → Option Method → List Bridge
+  bridge_to at None = []
+  bridge_to at (Some m) =
+      record { method = (class_numbered at.0, at.1); by = (class_numbered m.holder, m.place) } ∷ []
+
+  abbrev pub bridge_from : ℕ × ℕ → List Bridge
+  bridge_from at = bridge_to at (find (runs_for_place at) (has_methods heads classes c))
+
   unfoldable pub bridges : List Bridge
-  bridges = flat_map bridge_from (sorted (filter is_instance_method (methods_above heads classes c)))
+  bridges = flat_map bridge_from (sorted (map place_of instance_methods))

@@ -1,6 +1,8 @@
 -- Enums (JLS 8.9): a final class directly below Object whose objects are its constants, each with its name and its
 -- place in two hidden fields, and the methods that no source writes.
-use Rattle.std.specs.Prelude.{ℕ, suc, pos, ◌+◌, Bool, true, false, List, [], ◌∷◌, Some, codes}
+use Rattle.std.specs.Prelude.{ℕ, suc, pos, ◌+◌, Bool, true, false, List, [], ◌∷◌, Some, codes, flat_map}
+use Rattle.std.specs.Char.Escape.{encode_utf16}
+use Rattle.std.specs.Str.{chars}
 use Rattle.je_base.specs.declared.span.NameId.{NameId}
 use Rattle.je_base.specs.declared.span.Span.{Span}
 use Rattle.je_core.specs.declared.program.Access.{Access}
@@ -69,6 +71,10 @@ module _ (number : List ℕ → NameId) where
 
 -- ---- their code, which has the span of the enum's name
 
+-- the UTF-16 units of the text of a name
+abbrev pub name_units : List (List ℕ) → NameId → List ℕ
+name_units texts x = flat_map encode_utf16 (chars (text_in texts x))
+
 module _ (number : List ℕ → NameId) (texts : List (List ℕ)) (c : ℕ) (span : Span) (constants : List Identifier) where
   abbrev pub enum_node : CoreForm → Ty → Core
   enum_node form ty = node form ty span span
@@ -135,7 +141,7 @@ module _ (number : List ℕ → NameId) (texts : List (List ℕ)) (c : ℕ) (spa
     where
       arguments : List Core
       arguments =
-          node (Text (text_in texts id.name) []) string id.span id.span
+          node (Text (name_units texts id.name) []) string id.span id.span
           ∷ node (Const (value.Int (pos at)) []) int id.span id.span
           ∷ []
 
