@@ -25,8 +25,8 @@ use name_types::SrcTy;
 use source_subtypes::{ClassHeads, erased};
 use std::alloc::Global;
 
-// Whether types are the same once erased.
-fn are_same_erased(heads: &ClassHeads, types: &[SrcTy], others: &[SrcTy]) -> bool
+/// Whether types are the same once erased.
+pub fn are_same_erased(heads: &ClassHeads, types: &[SrcTy], others: &[SrcTy]) -> bool
     ensures { result ≡ same_types (map (the_erased (heads_of heads.now)) (map shown types.now))
         (map (the_erased (heads_of heads.now)) (map shown others.now)) }
 {

@@ -9,6 +9,6 @@ mod clashing;
 mod implementing;
 mod overrides;
 
-pub use clashing::{no_clash, no_constructor_clash, no_inherited_clash};
+pub use clashing::{are_same_erased, no_clash, no_constructor_clash, no_inherited_clash};
 pub use implementing::{all_implemented, good_implementations};
 pub use overrides::good_override;
