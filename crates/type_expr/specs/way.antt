@@ -1,0 +1,3 @@
+-- What only proofs and private functions cite.
+pub mod Calls
+pub mod Lists
