@@ -48,8 +48,8 @@ fn kind_of(program: &Program, class: ClassId) -> Kind
     }
 }
 
-// A count of what stands in memory, which holds no more than a number can name.
-fn counted(length: usize) -> Result<u32, Memory>
+/// A count of what stands in memory, which holds no more than a number can name.
+pub fn counted(length: usize) -> Result<u32, Memory>
     ensures { IfOk result (λ n. n ≡ length) }
 {
     match u32::try_from(length) {
@@ -87,7 +87,7 @@ fn made(making: Making, class: ClassId, parts: Parts) -> Result<Class, Memory>
         fields,
         initializers: parts.initializers,
         methods: parts.methods,
-        enclosing: enclosing(program, class),
+        enclosing: enclosing(sites, class),
         captured,
         within: sites.outside(class).within,
         nth: parts.nth,

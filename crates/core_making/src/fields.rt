@@ -45,7 +45,7 @@ fn add_outer(
     ensures { OnOk result (map field_view fields.new.items ≡ map field_view fields.old.items
         ++ outer_fields (program_seen making.entry.program) span class.0) }
 {
-    if let Some(outer) = enclosing(&making.program, class) {
+    if let Some(outer) = enclosing(making.program.source.sites, class) {
         let ty = of(Base::Class(outer));
         fields.push(hidden_field(number(making.names, ""), span, ty))?;
     }

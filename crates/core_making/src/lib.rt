@@ -10,6 +10,6 @@ mod fields;
 mod making;
 mod written;
 
-pub use classes::core_class;
+pub use classes::{core_class, counted};
 pub use making::{Making, Parts};
-pub use written::written_span;
+pub use written::{enclosing, is_enum_sort, written_span};

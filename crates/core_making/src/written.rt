@@ -6,13 +6,14 @@ ghost use Rattle.declarations.specs.Declarations.{is_enum_sort as the_is_enum_so
 ghost use Rattle.je_ast.specs.View.{declaration_node_view, declaration_view};
 ghost use Rattle.je_scopes.specs.Headers.{declared_name, is_interface_sort as the_is_interface_sort, span_in};
 ghost use Rattle.name_sites.specs.Number.{number_in};
+ghost use Rattle.name_sites.specs.View.{source_of};
 ghost use Rattle.name_walk.specs.View.{written_view};
-ghost use Rattle.body_places.specs.View.{program_seen};
 
-use body_places::{Program, is_instance};
+use body_places::is_instance;
 use je_ast::Decl;
 use je_base::Span;
 use je_core::{ClassId, Sort};
+use name_sites::Sites;
 use name_walk::Written;
 
 #[tactic(auto, using(je_ast::proofs::Views::declaration_is))]
@@ -48,10 +49,10 @@ pub fn written_span(written: Written) -> Span
 }
 
 /// The class of the instance round those of a class, if there is one (JLS 8.1.3).
-pub fn enclosing(program: &Program, class: ClassId) -> Option<ClassId>
-    ensures { number_in result ≡ the_enclosing (program_seen program.now).source class.0 }
+pub fn enclosing(sites: &Sites, class: ClassId) -> Option<ClassId>
+    ensures { number_in result ≡ the_enclosing (source_of sites.now) class.0 }
 {
-    let outside = program.source.sites.outside(class);
+    let outside = sites.outside(class);
     if is_instance(outside.context) {
         outside.within
     } else {
