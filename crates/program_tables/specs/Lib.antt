@@ -1,0 +1,3 @@
+pub mod Counts
+pub mod Library
+pub mod way
