@@ -1,0 +1,3 @@
+pub mod Written
+pub mod Without
+pub mod Library
