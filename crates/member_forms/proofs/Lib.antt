@@ -1,0 +1,4 @@
+pub mod Kept
+pub mod Counted
+pub mod Beside
+pub mod Among
