@@ -90,19 +90,19 @@ fn block_at(alloc: Global, span: Span, code: Vec<Stmt>) -> Result<Stmt, Memory>
     Ok(make_block(span, span, Vec::new(alloc), parts))
 }
 
-// A constructor of that name with that span alone.
+// A constructor with that span alone, whose parameters have no names.
 fn constructor_at(
     alloc: Global,
-    names: (NameId, NameId),
+    name: NameId,
+    no_name: NameId,
     span: Span,
     flags: Flags,
     params: Vec<Ty>,
     code: Vec<Stmt>,
 ) -> Result<Method, Memory>
-    ensures { IfOk result (λ m. method_view m ≡ constructor_named names.0 names.1 span flags
+    ensures { IfOk result (λ m. method_view m ≡ constructor_named name no_name span flags
         params.items (map stmt_view code.items)) }
 {
-    let (name, no_name) = names;
     let locals = unnamed_locals(alloc, no_name, span, &params)?;
     let code = block_at(alloc, span, code)?;
     let body = kept(alloc, Some(code))?;
@@ -127,9 +127,11 @@ fn unwritten_constructor(
     ensures { IfOk result (λ m. method_view m ≡ the_unwritten_constructor walk.entry params.items
         (map stmt_view code.items)) }
 {
-    let names = (number(walk, "new"), number(walk, ""));
+    let word = number(walk, "new");
+    let no_name = number(walk, "");
+    let span = class_span(walk);
     let flags = unwritten_flags(walk);
-    constructor_at(alloc(walk), names, class_span(walk), flags, params, code)
+    constructor_at(alloc(walk), word, no_name, span, flags, params, code)
 }
 
 fn one_method<'a>(alloc: Global, method: Method) -> Result<MembersDone<'a>, Memory>
