@@ -298,11 +298,10 @@ fn index(
         array.now) (view at.now) span))) }
 {
     let program = &bodies.calls.program;
-    let alloc = program.source.alloc;
     let array = part(bodies, scope, Purpose::Read, array)?;
     let at = part(bodies, scope, Purpose::Read, at)?;
     element(
-        alloc,
+        program.source.alloc,
         program.heads,
         array.span,
         at.span,
@@ -452,11 +451,10 @@ fn tested(
         at (view operand.now) (type_view ty.now) span))) }
 {
     let program = &bodies.calls.program;
-    let alloc = program.source.alloc;
     let operand = value(bodies, scope, Purpose::Read, operand)?;
     let of = bare_type(program, &scope.here, ty)?;
     instance_of(
-        alloc,
+        program.source.alloc,
         program.heads,
         &of,
         span_of_type(ty),
@@ -510,12 +508,11 @@ fn conditional(
         at (view condition.now) (view yes.now) (view no.now) span))) }
 {
     let program = &bodies.calls.program;
-    let alloc = program.source.alloc;
     let condition = part(bodies, scope, Purpose::Read, condition)?;
     let yes = value(bodies, scope, Purpose::Read, yes)?;
     let no = value(bodies, scope, Purpose::Read, no)?;
     choice(
-        alloc,
+        program.source.alloc,
         program.heads,
         at,
         condition.span,
