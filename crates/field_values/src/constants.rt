@@ -2,7 +2,8 @@
 
 ghost use Rattle.std.specs.Prelude.{◌≡◌, ◌↔◌, ◌++◌, None, IfOk, IsTrue, OnOk, map, option_map, replicate};
 ghost use Rattle.body_places.specs.Tables.{constant_at, constant_seen};
-ghost use Rattle.class_typing.specs.ConstantFields.{constant_in as the_constant_in, constants_shifted, library_constants as the_library_constants};
+ghost use Rattle.class_typing.specs.ConstantFields.{constant_in as the_constant_in, constants_shifted};
+ghost use Rattle.class_typing.specs.ConstantFields.{library_constants as the_library_constants};
 ghost use Rattle.je_core.specs.View.{class_view, field_view, form_view};
 ghost use Rattle.je_scopes.specs.Headers.{site_at};
 ghost use Rattle.library_classes.specs.Library.{all_due};

@@ -1,8 +1,8 @@
-//! What a source writes of fields: the value of each, and which have none; and the constants of the library (JLS 4.12.4,
-//! 8.3).
+//! What a source writes of fields: the value of each, and which have none; and the constants of the library
+//! (JLS 4.12.4, 8.3).
 //!
-//! All is by class, and then by the place of a field. Contracts see written values by `value_at`, which fields have none
-//! by `blank_seen` of `body_scopes`, constants by `constant_at` of `body_places`, and a count for each class by
+//! All is by class, and then by the place of a field. Contracts see written values by `value_at`, which fields have
+//! none by `blank_seen` of `body_scopes`, constants by `constant_at` of `body_places`, and a count for each class by
 //! `count_at`.
 #![tactic(auto)]
 

@@ -1,7 +1,9 @@
 // The values that are written of fields.
 
 ghost use Rattle.std.specs.Prelude.{◌≡◌, ◌++◌, IfOk, List, OnOk, map, replicate};
-ghost use Rattle.class_typing.specs.ConstantFields.{FieldValue as TheValue, field_value, member_values, unwritten, value_of as the_value_of, values_before, variable_values, written_values};
+ghost use Rattle.class_typing.specs.ConstantFields.{FieldValue as TheValue, field_value, member_values, unwritten};
+ghost use Rattle.class_typing.specs.ConstantFields.{value_of as the_value_of, values_before, variable_values};
+ghost use Rattle.class_typing.specs.ConstantFields.{written_values};
 ghost use Rattle.je_ast.specs.View.{member_node_view, member_view, member_views_of, variable_view, variable_views_of};
 ghost use Rattle.name_sites.specs.View.{source_of};
 ghost use Rattle.name_typing.specs.Program.{Program};

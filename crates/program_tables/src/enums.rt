@@ -2,7 +2,8 @@
 
 ghost use Rattle.std.specs.Prelude.{◌≡◌, ◌++◌, OnOk, drop, map, take};
 ghost use Rattle.class_heads.specs.View.{behind};
-ghost use Rattle.class_typing.specs.Programs.{all_with_methods, classes as the_classes, library_count, number as the_number, with_enum_methods};
+ghost use Rattle.class_typing.specs.Programs.{all_with_methods, classes as the_classes, library_count};
+ghost use Rattle.class_typing.specs.Programs.{number as the_number, with_enum_methods};
 ghost use Rattle.declarations.specs.View.{class_shown};
 ghost use Rattle.je_names.specs.Scopes.{declared_classes};
 ghost use Rattle.je_scopes.specs.Source.{Source};

@@ -2,7 +2,10 @@
 
 ghost use Rattle.std.specs.Prelude.{◌≡◌, ◌<◌, ◌++◌, IfOk, OnOk, length, map};
 ghost use Rattle.class_typing.specs.Elaboration.{hidden_count as the_hidden_count};
-ghost use Rattle.class_typing.specs.Programs.{captured_type, enclosing as the_enclosing, enum_types, heads as the_heads, hidden_field as the_hidden_field, hidden_fields as the_hidden_fields, outer_count as the_outer_count, outer_types, types_before};
+ghost use Rattle.class_typing.specs.Programs.{captured_type, enclosing as the_enclosing, enum_types};
+ghost use Rattle.class_typing.specs.Programs.{heads as the_heads, hidden_field as the_hidden_field};
+ghost use Rattle.class_typing.specs.Programs.{hidden_fields as the_hidden_fields, outer_count as the_outer_count};
+ghost use Rattle.class_typing.specs.Programs.{outer_types, types_before};
 ghost use Rattle.declarations.specs.Declarations.{is_enum_sort as the_is_enum_sort};
 ghost use Rattle.declarations.specs.View.{field_shown};
 ghost use Rattle.je_scopes.specs.Headers.{site_at};

@@ -4,7 +4,8 @@ ghost use Rattle.std.specs.Prelude.{◌≡◌, ◌<◌, ◌^◌, ℕ, IfOk, OnOk
 ghost use Rattle.body_places.specs.Tables.{captured_in};
 ghost use Rattle.body_places.specs.View.{program_seen};
 ghost use Rattle.class_heads.specs.View.{classes_of};
-ghost use Rattle.class_typing.specs.Programs.{captured_place, classes as the_classes, heads as the_heads, plain_program as the_plain_program, with_hidden};
+ghost use Rattle.class_typing.specs.Programs.{captured_place, classes as the_classes, heads as the_heads};
+ghost use Rattle.class_typing.specs.Programs.{plain_program as the_plain_program, with_hidden};
 ghost use Rattle.known_classes.specs.Known.{captured_seen};
 ghost use Rattle.name_typing.specs.Fields.{fields_of as the_fields_of};
 ghost use Rattle.source_subtypes.specs.View.{heads_of};
