@@ -20,7 +20,9 @@ use Rattle.name_typing.specs.Program.{Constant, Frame, Program, text_constant, v
 use Rattle.expression_typing.specs.ConstantVariables.{variable_constant}
 use Rattle.expression_typing.specs.Expressions.{Known, expression, initial, value}
 use Rattle.expression_typing.specs.FinalVariables.{Scope}
+use Rattle.class_typing.specs.Captures.{captures}
 use Rattle.class_typing.specs.Places.{member_frame}
+use Rattle.class_typing.specs.Programs.{CapturedLocal}
 
 -- ---- the values that are written of fields
 
@@ -81,9 +83,15 @@ abbrev pub if_final : DeclaredField → Judged TypedNode → Option Constant
 if_final f (gives t) = variable_constant f.is_final f.ty t.node
 if_final f (faulty fault) = None
 
--- nothing is captured or assigned in a constant
-abbrev pub nothing_known : Known
-nothing_known = record { captures = λ place c. []; is_blank = λ m. false }
+-- before bodies are walked: no locals are captured, and nothing is assigned in a constant
+abbrev pub no_locals : ℕ → List CapturedLocal
+no_locals c = []
+
+abbrev pub no_bodies : ℕ → List Frame
+no_bodies c = []
+
+abbrev pub nothing_known : Program → Known
+nothing_known p = record { captures = captures p no_locals no_bodies; is_blank = λ m. false }
 
 -- in the initializer of a field, before which so many stand
 abbrev pub in_initializer : Bool → ℕ → ℕ → List Frame → Scope
@@ -119,9 +127,12 @@ module _ (p : Program) (hidden : ℕ → ℕ) (round : ℕ → List Frame) where
   abbrev pub scope_of : DeclaredField → Member → Scope
   scope_of f m = in_initializer f.is_static m.class.0 m.at (round m.class.0)
 
+  abbrev pub with_known : (Member → Option Constant) → Program
+  with_known known = record p { constants = known }
+
   abbrev pub constant_by : (Member → Option Constant) → Member → Option DeclaredField → FieldValue → Option Constant
   constant_by known m (Some f) (by e) =
-      if_final f (value (expression (record p { constants = known }) nothing_known (scope_of f m) (initial f.ty) e))
+      if_final f (value (expression (with_known known) (nothing_known (with_known known)) (scope_of f m) (initial f.ty) e))
   constant_by known m f v = None
 
   abbrev pub constant_next : (Member → Option Constant) → Member → Option Constant

@@ -32,15 +32,10 @@ pub record World : Type 0 where
   pub program : Program
   pub known : Known
 
--- what the members of classes come to, class by class, what was met in all of them, and the fields that are constant
--- variables, as far as that is told behind them
-pub record BodiesDone : Type 0 where
-  pub classes : List MembersDone
+-- what was met in the bodies of classes, and the fields that are constant variables, as far as that is told behind them
+pub record BodiesMet : Type 0 where
   pub met : List Met
   pub constants : Member → Option Constant
-
-abbrev pub one_more : MembersDone → BodiesDone → BodiesDone
-one_more d rest = record rest { classes = d ∷ rest.classes }
 
 module _ (source : Source) where
   abbrev pub hidden_count : (ℕ → List CapturedLocal) → ℕ → ℕ
@@ -120,14 +115,13 @@ module _ (source : Source) where
       }
 
   -- of so many classes from one on, behind what was met in those before it
-  abbrev pub bodies_from : (Member → Option Constant) → List Met → ℕ → ℕ → Judged BodiesDone
-  bodies_from constants met c zero = gives (record { classes = []; met = met; constants = constants })
+  abbrev pub bodies_from : (Member → Option Constant) → List Met → ℕ → ℕ → Judged BodiesMet
+  bodies_from constants met c zero = gives (record { met = met; constants = constants })
   bodies_from constants met c (suc n) = do
     d ← members_of (first_world constants) nothing_captured met c
-    rest ← bodies_from (constants_behind met d.met constants) (met ++ d.met) (suc c) n
-    gives (one_more d rest)
+    bodies_from (constants_behind met d.met constants) (met ++ d.met) (suc c) n
 
-  abbrev pub first_bodies : Judged BodiesDone
+  abbrev pub first_bodies : Judged BodiesMet
   first_bodies = bodies_from constants_first [] (library_count source) guest_count
 
   -- the second one, for the code, where it is known what each class captures
@@ -135,11 +129,11 @@ module _ (source : Source) where
   abbrev pub captured_count : (ℕ → List CapturedLocal) → ℕ → ℕ
   captured_count captured c = length (captured c)
 
-  abbrev pub whole_program : (ℕ → List CapturedLocal) → BodiesDone → Program
+  abbrev pub whole_program : (ℕ → List CapturedLocal) → BodiesMet → Program
   whole_program captured first =
       with_constants (plain_program source captured) (constants_shifted (captured_count captured) first.constants)
 
-  abbrev pub whole_world : (ℕ → List CapturedLocal) → BodiesDone → World
+  abbrev pub whole_world : (ℕ → List CapturedLocal) → BodiesMet → World
   whole_world captured first =
       let p = whole_program captured first in
       record {
@@ -150,26 +144,23 @@ module _ (source : Source) where
         };
       }
 
-  abbrev pub bodies_again : World → (ℕ → List CapturedLocal) → List Met → ℕ → ℕ → Judged (List MembersDone)
-  bodies_again w captured met c zero = gives []
-  bodies_again w captured met c (suc n) = do
+  -- so many classes from one on
+  abbrev pub core_classes : World → (ℕ → List CapturedLocal) → List Met → ℕ → ℕ → Judged (List CoreClass)
+  core_classes w captured met c zero = gives []
+  core_classes w captured met c (suc n) = do
     d ← members_of w captured met c
-    rest ← bodies_again w captured met (suc c) n
-    gives (d ∷ rest)
+    rest ← core_classes w captured met (suc c) n
+    gives (core_class w.program captured c d ∷ rest)
 
   -- ---- the core program
-
-  abbrev pub core_classes : Program → (ℕ → List CapturedLocal) → ℕ → List MembersDone → List CoreClass
-  core_classes p captured c [] = []
-  core_classes p captured c (d ∷ ds) = core_class p captured c d ∷ core_classes p captured (suc c) ds
 
   abbrev pub core_program : List CoreClass → CoreProgram
   core_program guests = record { classes = all_due (number source) ++ guests; texts = texts guests }
 
-  abbrev pub with_captures : (ℕ → List CapturedLocal) → BodiesDone → Judged CoreProgram
+  abbrev pub with_captures : (ℕ → List CapturedLocal) → BodiesMet → Judged CoreProgram
   with_captures captured first = do
-    classes ← bodies_again (whole_world captured first) captured first.met (library_count source) guest_count
-    gives (core_program (core_classes (whole_program captured first) captured (library_count source) classes))
+    guests ← core_classes (whole_world captured first) captured first.met (library_count source) guest_count
+    gives (core_program guests)
 
   unfoldable pub elaborated : Judged CoreProgram
   elaborated = do

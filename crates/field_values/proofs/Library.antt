@@ -37,15 +37,15 @@ fields_there [] c d l = absurd (omega arith)
 fields_there (k ∷ cs) zero d l = refl
 fields_there (k ∷ cs) (suc c) d l = fields_there cs c d (omega (arith, l))
 
-abbrev joined : Option (Option program.Constant) → Option program.Constant
+abbrev pub joined : Option (Option program.Constant) → Option program.Constant
 joined None = None
 joined (Some constant) = constant
 
-seen-at : (constants : List (Option Constant)) (at : ℕ) → constant_in (slice_get constants at) ≡ joined (slice_get (map (option_map constant_seen) constants) at)
-seen-at [] at = refl
-seen-at (None ∷ constants) zero = refl
-seen-at (Some k ∷ constants) zero = refl
-seen-at (k ∷ constants) (suc at) = seen-at constants at
+pub seen_at : (constants : List (Option Constant)) (at : ℕ) → constant_in (slice_get constants at) ≡ joined (slice_get (map (option_map constant_seen) constants) at)
+seen_at [] at = refl
+seen_at (None ∷ constants) zero = refl
+seen_at (Some k ∷ constants) zero = refl
+seen_at (k ∷ constants) (suc at) = seen_at constants at
 
 kept-at : (fs : List CoreField) (at : ℕ) → joined (slice_get (map constant_kept fs) at) ≡ constant_of_field (slice_get fs at)
 kept-at [] at = refl
@@ -72,7 +72,7 @@ module _ (s : Source) (library : List Class) where
         map (option_map constant_seen) (values_in (slice_get all m.class.0)) ≡ constants_due (site_at s.sites m.class.0).written (fields_in (slice_get (map class_view library) m.class.0)) →
         constant_at all m ≡ due (map class_view library) m
     within m here =
-        seen-at (values_in (slice_get all m.class.0)) m.at
+        seen_at (values_in (slice_get all m.class.0)) m.at
         ∙ ap (λ (constants : List (Option program.Constant)). joined (slice_get constants m.at)) here
         ∙ due-at (is_guest (site_at s.sites m.class.0).written) (fields_in (slice_get (map class_view library) m.class.0)) m.at
 

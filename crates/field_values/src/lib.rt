@@ -13,4 +13,5 @@ mod values;
 
 pub use blank::blank_fields;
 pub use constants::{is_same_constant, library_constants, shifted};
+pub use counts::count_of;
 pub use values::{FieldValue, all_field_values};
