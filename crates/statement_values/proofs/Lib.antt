@@ -1,0 +1,12 @@
+pub mod Adding
+pub mod Eaches
+pub mod Limits
+pub mod Staying
+pub mod Gathering
+pub mod Gathered
+pub mod StepLists
+pub mod VariableLists
+pub mod LabelLists
+pub mod Expressed
+pub mod Declared
+pub mod Initialized

@@ -1,0 +1,3 @@
+-- What only proofs and private functions cite.
+pub mod Declared
+pub mod Labelled
