@@ -1,0 +1,13 @@
+pub mod Past
+pub mod Telling
+pub mod Asking
+pub mod Walking
+pub mod Making
+pub mod Order
+pub mod Beginning
+pub mod Worlds
+pub mod Due
+pub mod Within
+pub mod Following
+pub mod Standing
+pub mod Nones

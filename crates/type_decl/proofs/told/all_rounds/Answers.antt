@@ -1,0 +1,25 @@
+use Rattle.std.proofs.Common.{◌≡◌, length, map, ap, ◌∙◌, arith}
+use Rattle.std.specs.Prelude.{slice_get}
+use Rattle.std.proofs.lemmas.Grind.{common_steps}
+use Rattle.name_lookup.proofs.Tables.{push-each}
+use Rattle.name_sites.specs.View.{source_of}
+use Rattle.known_classes.specs.Known.{frames_in}
+use Rattle.class_typing.specs.Places.{round_met}
+use Rattle.met_in_bodies.specs.Seen.{met_seen}
+use Rattle.type_decl.proofs.Past.{all_round}
+use Rattle.type_decl.proofs.told.all_rounds.Goals as goal
+
+pub loop-at-preserved : goal.loop-at-preserved
+loop-at-preserved c = record {
+  whole = grind (arith, common_steps, c.in_ok-push.ensures.items, c.loop-at.invariant.whole);
+  each = λ d l. ap (λ rs. frames_in (slice_get rs d)) c.in_ok-push.ensures.items
+      ∙ push-each (λ n o. frames_in o ≡ round_met (source_of c.args.sites.now).sites (map met_seen c.args.all.now.met.items) n)
+      c.loop-at.rounds.items c.in_ok-round_met.field-0 c.loop-at.at c.loop-at.invariant.whole c.loop-at.invariant.each
+      (c.in_ok-round_met.ensures ∙ ap (λ ms. round_met (source_of c.args.sites.now).sites (map met_seen ms) c.loop-at.at) c.deref.ensures.value) d l;
+}
+
+pub returns : goal.returns
+returns c =
+    let e : c.loop-at.at ≡ length (source_of c.args.sites.now).sites = omega (arith, c.len-at-end.ensures.count, c.loop-at.auto.at-end, c.loop-at-test.false) in
+    all_round (source_of c.args.sites.now).sites (map met_seen c.args.all.now.met.items) c.loop-at.rounds.items (c.loop-at.invariant.whole ∙ e)
+    (λ d l. c.loop-at.invariant.each d (omega (arith, l, e)))

@@ -1,0 +1,25 @@
+use Rattle.std.proofs.Common.{◌≡◌, length, ap, ◌∙◌, arith}
+use Rattle.std.specs.Prelude.{slice_get}
+use Rattle.std.proofs.lemmas.Grind.{common_steps}
+use Rattle.name_lookup.proofs.Tables.{push-each}
+use Rattle.name_sites.specs.View.{source_of}
+use Rattle.body_scopes.specs.View.{is_set}
+use Rattle.je_scopes.specs.Headers.{is_guest, site_at}
+use Rattle.je_scopes.specs.Sites.{Written}
+use Rattle.type_decl.proofs.Past.{all_guests}
+use Rattle.type_decl.proofs.told.guests.Goals as goal
+
+pub loop-at-preserved : goal.loop-at-preserved
+loop-at-preserved c = record {
+  whole = grind (arith, common_steps, c.in_ok-push.ensures.items, c.loop-at.invariant.whole);
+  each = λ d l. ap (λ bs. is_set (slice_get bs d)) c.in_ok-push.ensures.items
+      ∙ push-each (λ n o. is_set o ≡ is_guest (site_at (source_of c.args.sites.now).sites n).written)
+      c.loop-at.asked.items _ c.loop-at.at c.loop-at.invariant.whole c.loop-at.invariant.each
+      (c.is_written.ensures ∙ ap is_guest c.written.ensures) d l;
+}
+
+pub returns : goal.returns
+returns c =
+    let e : c.loop-at.at ≡ length (source_of c.args.sites.now).sites = omega (arith, c.len-at-end.ensures.count, c.loop-at.auto.at-end, c.loop-at-test.false) in
+    all_guests (source_of c.args.sites.now).sites c.loop-at.asked.items (c.loop-at.invariant.whole ∙ e)
+    (λ d l. c.loop-at.invariant.each d (omega (arith, l, e)))

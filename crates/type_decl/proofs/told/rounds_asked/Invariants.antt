@@ -1,0 +1,15 @@
+use Rattle.std.proofs.Common.{◌≡◌, ℕ, ◌<◌, length, map, true}
+use Rattle.std.specs.Prelude.{slice_get}
+use Rattle.name_sites.specs.View.{source_of}
+use Rattle.known_classes.specs.Known.{frames_in}
+use Rattle.class_typing.specs.Places.{round_met}
+use Rattle.type_decl.specs.way.Asked.{is_asked}
+use Rattle.met_in_bodies.specs.Seen.{met_seen}
+use Rattle.type_decl.proofs.told.rounds_asked.Given as goal
+
+abbrev pub invariant-loop-at : goal.invariant-loop-at
+invariant-loop-at l = record {
+  whole : length l.rounds.items ≡ l.at;
+  each : (c : ℕ) → c < l.at → is_asked l.asked c ≡ true →
+      frames_in (slice_get l.rounds.items c) ≡ round_met (source_of l.sites).sites (map met_seen l.all.met.items) c;
+}
