@@ -3,8 +3,8 @@ use Rattle.std.proofs.Common.{ℕ, List, [], ◌∷◌, ◌++◌, true, false, r
 use Rattle.std.specs.Prelude.{Bool}
 use Rattle.std.proofs.lemmas.List.{append_assoc}
 use Rattle.name_typing.specs.Program.{LocalVariable}
-use Rattle.expression_typing.specs.FinalVariables.{Scope}
-use Rattle.statement_typing.specs.Bodies.{given_if, with_classes_of, with_local, with_local_class}
+use Rattle.body_typing.specs.FinalVariables.{Scope}
+use Rattle.body_typing.specs.Bodies.{given_if, with_classes_of, with_local, with_local_class}
 use Rattle.body_scopes.specs.Extending.{Extends, IsEndOf, with_lists_of}
 
 pub extends_itself : (s : Scope) → Extends s s

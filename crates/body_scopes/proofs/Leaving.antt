@@ -3,8 +3,8 @@ use Rattle.std.proofs.Common.{◌≡◌, ℕ, ◌+◌, ◌-◌, List, drop, leng
 use Rattle.std.proofs.lemmas.List.{drop-map, drop_at, length-append}
 use Rattle.source_subtypes.proofs.Climbing.{length-mapped}
 use Rattle.name_typing.specs.Program.{LocalVariable}
-use Rattle.expression_typing.specs.FinalVariables.{Scope}
-use Rattle.statement_typing.specs.Bodies.{in_frame, with_classes_of}
+use Rattle.body_typing.specs.FinalVariables.{Scope}
+use Rattle.body_typing.specs.Bodies.{in_frame, with_classes_of}
 use Rattle.body_scopes.specs.Extending.{Extends, IsEndOf}
 
 pub end_is_left : {A : Type 0} (xs ys left : List A) (kept : ℕ) → IsEndOf xs ys → kept ≡ length xs → left ≡ drop (length ys - kept) ys → left ≡ xs

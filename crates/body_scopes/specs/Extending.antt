@@ -1,7 +1,7 @@
 -- A scope that has all of an earlier one, and more in front.
 use Rattle.std.specs.Prelude.{◌≡◌, List, ◌++◌}
-use Rattle.expression_typing.specs.FinalVariables.{Scope}
-use Rattle.statement_typing.specs.Bodies.{in_frame}
+use Rattle.body_typing.specs.FinalVariables.{Scope}
+use Rattle.body_typing.specs.Bodies.{in_frame}
 
 abbrev pub IsEndOf : {A : Type 0} → List A → List A → Type 0
 IsEndOf {A = A} xs ys = (front : List A) × (ys ≡ front ++ xs)

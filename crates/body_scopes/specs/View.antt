@@ -3,7 +3,7 @@ use Rattle.std.specs.Prelude.{◌≡◌, Bool, false, List, [], length, map, Opt
 use Rattle.std.specs.declared.vec.Vec.{Vec}
 use Rattle.std.specs.declared.alloc.Global.{Global}
 use Rattle.je_classes.specs.Members.{Member}
-use Rattle.expression_typing.specs.FinalVariables as words
+use Rattle.body_typing.specs.FinalVariables as words
 use Rattle.body_places.specs.Places.{frame_seen}
 use Rattle.body_scopes.specs.declared.scope.Depth.{Depth}
 use Rattle.body_scopes.specs.declared.scope.Scope.{Scope}

@@ -3,7 +3,7 @@
 ghost use Rattle.std.specs.Prelude.{◌≡◌, ℕ, IfErr, IfOk, nat_eq};
 ghost use Rattle.std.specs.List.{list_any};
 ghost use Rattle.je_core.specs.View.{form_view, view};
-ghost use Rattle.expression_typing.specs.FinalVariables.{builds as the_builds, may_assign as the_may_assign, may_be_assigned as the_may_be_assigned, not_final as the_not_final, starts as the_starts};
+ghost use Rattle.body_typing.specs.FinalVariables.{builds as the_builds, may_assign as the_may_assign, may_be_assigned as the_may_be_assigned, not_final as the_not_final, starts as the_starts};
 ghost use Rattle.je_typing.specs.Answers.{IsFault};
 ghost use Rattle.je_typing.specs.Conversions.{token_of as the_token_of};
 ghost use Rattle.je_typing.specs.Judged.{gives};
@@ -109,7 +109,7 @@ fn token_of(node: &Expr) -> Span
 
 /// Nothing where a variable may be assigned at a place: it isn't final, or it is a blank one that gets its value there.
 /// A fault is FinalAssign, at the name.
-#[tactic(auto, unfolding(expression_typing::specs::FinalVariables::not_final), using(je_core::proofs::Views::form_of_view))]
+#[tactic(auto, unfolding(body_typing::specs::FinalVariables::not_final), using(je_core::proofs::Views::form_of_view))]
 pub fn not_final(
     program: &Program,
     blank: &[Vec<bool>],

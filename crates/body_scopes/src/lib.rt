@@ -1,7 +1,7 @@
 //! Scopes in bodies: the locals and local classes at a place, with the final locals that have their value there, as a walk
 //! over statements changes them; and which final variables may be assigned.
 //!
-//! Contracts see a `Scope` by `scope_seen`, as that of `expression_typing`. What a walk adds to a scope it takes away again
+//! Contracts see a `Scope` by `scope_seen`, as that of `body_typing`. What a walk adds to a scope it takes away again
 //! by the scope's `Depth`: while a scope `Extends` an earlier one, `leave` gives that back.
 #![tactic(auto)]
 

@@ -3,9 +3,9 @@
 ghost use Rattle.std.specs.Prelude.{◌≡◌, ◌-◌, OnOk, drop, length, map};
 ghost use Rattle.std.specs.List.{list_any};
 ghost use Rattle.je_scopes.specs.Headers.{same_name};
-ghost use Rattle.expression_typing.specs.FinalVariables.{Scope as Seen};
+ghost use Rattle.body_typing.specs.FinalVariables.{Scope as Seen};
 ghost use Rattle.name_typing.specs.Program.{LocalVariable as SeenLocal};
-ghost use Rattle.statement_typing.specs.Bodies.{has_local as the_has_local, with_classes_of, with_local, with_local_class};
+ghost use Rattle.body_typing.specs.Bodies.{has_local as the_has_local, with_classes_of, with_local, with_local_class};
 ghost use Rattle.body_places.specs.Places.{local_seen, place_seen};
 ghost use Rattle.body_scopes.specs.Extending.{Extends};
 ghost use Rattle.body_scopes.specs.View.{IsDepthOf, scope_seen};
@@ -54,8 +54,8 @@ fn has_name(locals: &[LocalVariable], name: NameId) -> bool
 
 impl<'a> Scope<'a> {
     ghost use Rattle.std.specs.Prelude.{◌≡◌, OnOk};
-    ghost use Rattle.expression_typing.specs.FinalVariables.{Scope as Seen};
-    ghost use Rattle.statement_typing.specs.Bodies.{has_local as the_has_local, with_classes_of, with_local, with_local_class};
+    ghost use Rattle.body_typing.specs.FinalVariables.{Scope as Seen};
+    ghost use Rattle.body_typing.specs.Bodies.{has_local as the_has_local, with_classes_of, with_local, with_local_class};
     ghost use Rattle.body_places.specs.Places.{local_seen, place_seen};
     ghost use Rattle.body_scopes.specs.Extending.{Extends};
     ghost use Rattle.body_scopes.specs.View.{IsDepthOf, scope_seen};

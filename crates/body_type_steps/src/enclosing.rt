@@ -3,7 +3,7 @@
 ghost use Rattle.std.specs.Prelude.{◌≡◌, IfErr, IfOk};
 ghost use Rattle.body_types.specs.BodyTypes.{look_at};
 ghost use Rattle.declarations.specs.Declarations.{type_at};
-ghost use Rattle.expression_typing.specs.Expressions.{class_of_look};
+ghost use Rattle.body_typing.specs.Expressions.{class_of_look};
 ghost use Rattle.je_ast.specs.Types.{type_view};
 ghost use Rattle.je_scopes.specs.Scope.{header};
 ghost use Rattle.je_typing.specs.Answers.{IsFault};

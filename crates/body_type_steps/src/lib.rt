@@ -2,7 +2,7 @@
 //! body.
 //!
 //! Each call comes to what the definition of its name in `body_types` says, over `program_seen` and `frame_seen`;
-//! `outer` and `anonymous_type` to what `expression_typing` says. `Ok` comes only where the definition gives, with what
+//! `outer` and `anonymous_type` to what `body_typing` says. `Ok` comes only where the definition gives, with what
 //! it gives; `Err` with a fault only where it is faulty with that; else memory was wanting.
 #![tactic(auto)]
 

@@ -3,7 +3,7 @@ use Rattle.name_typing.specs.Program.{Program}
 use Rattle.class_heads.specs.View.{classes_of}
 use Rattle.source_subtypes.specs.View.{heads_of}
 use Rattle.method_candidates.specs.TableView.{HasMethods}
-use Rattle.expression_typing.specs.Expressions.{Known}
+use Rattle.body_typing.specs.Expressions.{Known}
 use Rattle.body_places.specs.View.{program_seen}
 use Rattle.known_classes.specs.Known.{known_seen}
 use Rattle.body_walks.specs.declared.bodies.Bodies.{Bodies}

@@ -15,7 +15,7 @@ use Rattle.name_sites.specs.Number.{number_of}
 use Rattle.name_walk.proofs.Standing.{slice_get-append}
 use Rattle.name_lookup.specs.View.{numbers}
 use Rattle.name_typing.specs.Program.{Program}
-use Rattle.statement_typing.specs.Bodies.{Met, captures}
+use Rattle.body_typing.specs.Bodies.{Met, captures}
 use Rattle.capturing.specs.declared.kept.Kept.{Kept}
 use Rattle.capturing.specs.declared.users.Users.{Users}
 use Rattle.capturing.specs.way.Kept.{Gains, Is, IsDirect, IsHandedOn, IsHandedTo, IsOutside}

@@ -1,7 +1,7 @@
 -- What is met, one by one.
 use Rattle.std.proofs.Common.{◌≡◌, ℕ, refl}
 use Rattle.je_core.specs.declared.types.ClassId.{ClassId}
-use Rattle.statement_typing.specs.Bodies as bodies
+use Rattle.body_typing.specs.Bodies as bodies
 use Rattle.met_in_bodies.specs.declared.met.Met.{Met}
 use Rattle.met_in_bodies.specs.declared.met.Met.TheVariants as met
 use Rattle.met_in_bodies.specs.Seen.{met_seen}

@@ -13,8 +13,8 @@ use Rattle.je_scopes.proofs.Lists.{flat-from, in-below, in-either, in-filter, in
 use Rattle.source_types.specs.Heads.{supers_of}
 use Rattle.header_typing.specs.Supers.{class_in}
 use Rattle.name_typing.specs.Program.{Frame, Program}
-use Rattle.statement_typing.specs.Bodies.{Met, makes}
-use Rattle.statement_typing.specs.Bodies as met_in
+use Rattle.body_typing.specs.Bodies.{Met, makes}
+use Rattle.body_typing.specs.Bodies as met_in
 use Rattle.class_typing.specs.Captures.{class_made, class_of_type, classes_near, is_directly_in, listed}
 use Rattle.class_typing.specs.Places.{same_number}
 use Rattle.capturing.specs.declared.users.Users.{Users}

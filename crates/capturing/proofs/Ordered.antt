@@ -10,7 +10,7 @@ use Rattle.je_classes.proofs.Lists.{any-contains, bool_cases, contains-any}
 use Rattle.je_scopes.proofs.Either.{by_either, within_or_past}
 use Rattle.source_types.specs.Erasure.{class_numbered}
 use Rattle.name_typing.specs.Program.{Frame, LocalVariable, Program}
-use Rattle.statement_typing.specs.Bodies.{Met}
+use Rattle.body_typing.specs.Bodies.{Met}
 use Rattle.class_typing.specs.Captures.{captured_locals, captures_within, is_captured, reversed}
 use Rattle.class_typing.specs.Programs.{CapturedLocal}
 use Rattle.known_classes.specs.declared.known.CapturedLocal.{CapturedLocal as Captured}

@@ -10,7 +10,7 @@ use Rattle.je_scopes.proofs.Lists.{in-either}
 use Rattle.name_walk.proofs.Standing.{slice_get-append}
 use Rattle.source_types.specs.Erasure.{class_numbered}
 use Rattle.name_typing.specs.Program.{Frame, Program}
-use Rattle.statement_typing.specs.Bodies.{Met}
+use Rattle.body_typing.specs.Bodies.{Met}
 use Rattle.class_typing.specs.Captures.{captures_within, classes_near}
 use Rattle.capturing.specs.declared.kept.Kept.{Kept}
 use Rattle.capturing.specs.declared.users.Users.{Users}

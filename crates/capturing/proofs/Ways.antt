@@ -9,8 +9,8 @@ use Rattle.je_scopes.specs.Headers.{or_nothing}
 use Rattle.je_scopes.specs.Sites.{Site}
 use Rattle.je_scopes.proofs.Either.{by_either, nat_split, within_or_past}
 use Rattle.name_typing.specs.Program.{Frame, Program}
-use Rattle.statement_typing.specs.Bodies.{Met}
-use Rattle.statement_typing.specs.Bodies as met_in
+use Rattle.body_typing.specs.Bodies.{Met}
+use Rattle.body_typing.specs.Bodies as met_in
 use Rattle.class_typing.specs.Captures.{captures_within, classes_near, is_capture, is_outside}
 
 module _ (p : Program) (met : List Met) (round : ℕ → List Frame) where

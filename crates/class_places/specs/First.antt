@@ -1,7 +1,7 @@
 -- What contracts see of which of all that was met tells where classes stand.
 use Rattle.std.specs.Prelude.{◌≡◌, ℕ, ◌<◌, List, length, Option, Some, None, slice_get}
 use Rattle.std.specs.List.{position}
-use Rattle.statement_typing.specs.Bodies.{Met}
+use Rattle.body_typing.specs.Bodies.{Met}
 use Rattle.class_typing.specs.Places.{stands_at}
 use Rattle.class_places.specs.declared.first.Stands.{Stands}
 

@@ -38,7 +38,7 @@ impl Stands {
     ghost use Rattle.class_typing.specs.Places.{stands_at};
     ghost use Rattle.class_places.specs.First.{AreFirst, place_of};
     ghost use Rattle.met_in_bodies.specs.Seen.{met_seen};
-    ghost use Rattle.statement_typing.specs.Bodies.{Met as TheMet};
+    ghost use Rattle.body_typing.specs.Bodies.{Met as TheMet};
 
     /// Of so many classes, where nothing was met.
     #[tactic(auto, using(crate::proofs::Telling::nothing_first))]

@@ -8,9 +8,9 @@ use Rattle.je_base.specs.declared.span.Span.{Span}
 use Rattle.je_ast.specs.declared.name.Identifier.{Identifier}
 use Rattle.je_scopes.specs.Headers.{or_nothing, site_at}
 use Rattle.je_scopes.specs.Sites.{Site, Written, in_library, declared, behind_new}
-use Rattle.expression_typing.specs.Expressions.{is_behind}
+use Rattle.body_typing.specs.Expressions.{is_behind}
 use Rattle.name_sites.specs.ByName.{or_else}
-use Rattle.statement_typing.specs.LocalClasses.{is_declared_at}
+use Rattle.body_typing.specs.LocalClasses.{is_declared_at}
 use Rattle.class_spots.specs.Starts.{at_start, name_in, word_in}
 
 -- ---- in a list with one element more

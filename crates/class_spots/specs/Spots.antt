@@ -4,8 +4,8 @@ use Rattle.std.specs.List.{position}
 use Rattle.je_base.specs.declared.span.Span.{Span}
 use Rattle.je_ast.specs.declared.name.Identifier.{Identifier}
 use Rattle.je_scopes.specs.Sites.{Site}
-use Rattle.expression_typing.specs.Expressions.{is_behind}
-use Rattle.statement_typing.specs.LocalClasses.{is_declared_at}
+use Rattle.body_typing.specs.Expressions.{is_behind}
+use Rattle.body_typing.specs.LocalClasses.{is_declared_at}
 use Rattle.class_spots.specs.declared.places.ClassSpots.{ClassSpots}
 use Rattle.class_spots.specs.Starts.{kept}
 

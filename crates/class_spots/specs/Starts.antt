@@ -4,7 +4,7 @@ use Rattle.std.specs.HashMap.{get}
 use Rattle.je_base.specs.declared.span.Span.{Span}
 use Rattle.je_scopes.specs.Headers.{declared_name}
 use Rattle.je_scopes.specs.Sites.{Written, behind_new, declared}
-use Rattle.expression_typing.specs.Expressions.{same_start}
+use Rattle.body_typing.specs.Expressions.{same_start}
 use Rattle.class_spots.specs.declared.starts.Starts.{Starts}
 
 abbrev pub same_key : ℕ × ℕ → ℕ × ℕ → Bool

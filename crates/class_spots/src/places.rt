@@ -2,10 +2,10 @@
 
 ghost use Rattle.std.specs.Prelude.{◌≡◌, IfOk, unwrap_or};
 ghost use Rattle.std.specs.List.{position};
-ghost use Rattle.expression_typing.specs.Expressions.{is_behind};
+ghost use Rattle.body_typing.specs.Expressions.{is_behind};
 ghost use Rattle.je_scopes.specs.Sites.{Site};
 ghost use Rattle.name_sites.specs.View.{source_of};
-ghost use Rattle.statement_typing.specs.LocalClasses.{is_declared_at};
+ghost use Rattle.body_typing.specs.LocalClasses.{is_declared_at};
 ghost use Rattle.class_spots.specs.Spots.{AreSpotsOf};
 ghost use Rattle.class_spots.specs.Starts.{kept};
 

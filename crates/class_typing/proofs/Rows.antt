@@ -51,8 +51,8 @@ use Rattle.library_declarations.specs.Library.{library_declared}
 use Rattle.je_names.specs.Scopes.{declared_classes}
 use Rattle.statement_steps.specs.Returns.{returned_value}
 use Rattle.statement_steps.specs.Switches.{next_label, selector}
-use Rattle.expression_typing.specs.ConstantVariables.{variable_constant}
-use Rattle.statement_typing.specs.LocalClasses.{local_class}
+use Rattle.body_typing.specs.ConstantVariables.{variable_constant}
+use Rattle.body_typing.specs.LocalClasses.{local_class}
 use Rattle.class_typing.specs.Bridges.{bridges}
 use Rattle.class_typing.specs.Captures.{captured_locals, captures}
 use Rattle.class_typing.specs.ConstantFields.{constants_of, is_blank, library_constants}

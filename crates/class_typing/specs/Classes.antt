@@ -17,7 +17,7 @@ use Rattle.source_types.specs.Heads.{supers_of}
 use Rattle.declarations.specs.Declarations.{DeclaredClass, DeclaredField, is_enum_sort}
 use Rattle.header_typing.specs.Supers.{class_in}
 use Rattle.name_typing.specs.Program.{Program}
-use Rattle.expression_typing.specs.Expressions.{name_span}
+use Rattle.body_typing.specs.Expressions.{name_span}
 use Rattle.class_typing.specs.Bridges.{bridges}
 use Rattle.class_typing.specs.Captures.{listed}
 use Rattle.class_typing.specs.Members.{MembersDone}

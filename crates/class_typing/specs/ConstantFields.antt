@@ -17,9 +17,9 @@ use Rattle.library_classes.specs.Library.{all_due}
 use Rattle.library_classes.specs.Numbers.{number_in}
 use Rattle.name_typing.specs.Fields.{field_at}
 use Rattle.name_typing.specs.Program.{Constant, Frame, Program, text_constant, value_constant}
-use Rattle.expression_typing.specs.ConstantVariables.{variable_constant}
-use Rattle.expression_typing.specs.Expressions.{Known, expression, initial, value}
-use Rattle.expression_typing.specs.FinalVariables.{Scope}
+use Rattle.body_typing.specs.ConstantVariables.{variable_constant}
+use Rattle.body_typing.specs.Expressions.{Known, expression, initial, value}
+use Rattle.body_typing.specs.FinalVariables.{Scope}
 use Rattle.class_typing.specs.Captures.{captures}
 use Rattle.class_typing.specs.Places.{member_frame}
 use Rattle.class_typing.specs.Programs.{CapturedLocal}

@@ -24,10 +24,10 @@ use Rattle.name_typing.specs.Program.{Place, Program}
 use Rattle.call_typing.specs.Constructors.{constructor_for}
 use Rattle.call_typing.specs.Creations.{implicit_constructor_call, made_of, own_constructor_call, superclass_constructor_call}
 use Rattle.call_typing.specs.Overloads.{Candidate}
-use Rattle.expression_typing.specs.Expressions.{Known, anonymous_type, values}
-use Rattle.expression_typing.specs.FinalVariables.{Scope}
-use Rattle.expression_typing.specs.Mentions.{all_mentions}
-use Rattle.statement_typing.specs.Bodies.{Met, in_frame, met_by, performed}
+use Rattle.body_typing.specs.Expressions.{Known, anonymous_type, values}
+use Rattle.body_typing.specs.FinalVariables.{Scope}
+use Rattle.body_typing.specs.Mentions.{all_mentions}
+use Rattle.body_typing.specs.Bodies.{Met, in_frame, met_by, performed}
 
 -- ---- the call at the head of a constructor (JLS 8.8.7.1), in whose arguments there is no object yet
 

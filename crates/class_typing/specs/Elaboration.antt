@@ -14,9 +14,9 @@ use Rattle.je_typing.specs.Judged.{Judged, gives, ◌>>=◌, ◌>>◌}
 use Rattle.library_classes.specs.Library.{all_due}
 use Rattle.name_typing.specs.Fields.{fields_of, member}
 use Rattle.name_typing.specs.Program.{Constant, Frame, Program}
-use Rattle.expression_typing.specs.Expressions.{Known}
+use Rattle.body_typing.specs.Expressions.{Known}
 use Rattle.signature_typing.specs.Signatures.{Setting, signatures}
-use Rattle.statement_typing.specs.Bodies.{Met}
+use Rattle.body_typing.specs.Bodies.{Met}
 use Rattle.class_typing.specs.Captures.{captured_locals, captures}
 use Rattle.class_typing.specs.Classes.{core_class}
 use Rattle.class_typing.specs.ConstantFields.{constants_of, constants_shifted, is_blank, library_constants}

@@ -35,12 +35,12 @@ use Rattle.call_typing.specs.Constructors.{access_in, constructors_of, default_f
 use Rattle.call_typing.specs.Creations.{implicit_constructor_call}
 use Rattle.call_typing.specs.Overloads.{Candidate}
 use Rattle.statement_steps.specs.Returns.{Returning, a_value, never, no_value}
-use Rattle.expression_typing.specs.ConstantVariables.{variable_constant}
-use Rattle.expression_typing.specs.Expressions.{Known, expression, initial, value}
-use Rattle.expression_typing.specs.FinalVariables.{Scope}
-use Rattle.statement_typing.specs.Bodies.{Done, Met, Progress, block_of, local_of, met_in_expression, performed, stands_behind_new, with_local, with_met, with_number}
-use Rattle.statement_typing.specs.LocalVariables.{new_name}
-use Rattle.statement_typing.specs.Statements.{statements}
+use Rattle.body_typing.specs.ConstantVariables.{variable_constant}
+use Rattle.body_typing.specs.Expressions.{Known, expression, initial, value}
+use Rattle.body_typing.specs.FinalVariables.{Scope}
+use Rattle.body_typing.specs.Bodies.{Done, Met, Progress, block_of, local_of, met_in_expression, performed, stands_behind_new, with_local, with_met, with_number}
+use Rattle.body_typing.specs.LocalVariables.{new_name}
+use Rattle.body_typing.specs.Statements.{statements}
 use Rattle.class_typing.specs.Constructors.{OwnCall, chosen_for, declared_parameters, handed_on, head_call, head_code, met_in_head, no_cycle, own_calls, unwritten_constructor, word_of}
 use Rattle.class_typing.specs.Enums.{constants_made, enum_code}
 use Rattle.class_typing.specs.Places.{member_frame, stands_at}

@@ -4,7 +4,7 @@ use Rattle.std.specs.List.{find}
 use Rattle.je_scopes.specs.Headers.{is_local_sort, site_at}
 use Rattle.je_scopes.specs.Sites.{Context, Site}
 use Rattle.name_typing.specs.Program.{Frame, Initializer, LocalVariable, frames}
-use Rattle.statement_typing.specs.Bodies.{Met, stands, stands_behind_new}
+use Rattle.body_typing.specs.Bodies.{Met, stands, stands_behind_new}
 
 abbrev pub same_number : ℕ → Option ℕ → Bool
 same_number c None = false

@@ -7,7 +7,7 @@ use Rattle.je_core.specs.declared.program.Head.{Head}
 use Rattle.je_core.specs.declared.types.ClassId.{ClassId}
 use Rattle.je_ast.specs.Types.{TypeName, primitive, class_type}
 use Rattle.je_scopes.specs.Faults.{name_span}
-use Rattle.expression_typing.specs.Expressions as expressions
+use Rattle.body_typing.specs.Expressions as expressions
 use Rattle.class_typing.specs.Classes.{heads_from}
 use Rattle.core_making.specs.way.Made.{head}
 

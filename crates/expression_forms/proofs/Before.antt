@@ -9,8 +9,8 @@ use Rattle.je_typing.specs.Typed.{TypedNode}
 use Rattle.je_typing.proofs.Walks.{bind_faults, bind_gives}
 use Rattle.name_typing.specs.Program.{Place, Program}
 use Rattle.name_typing.specs.Qualified.{Qualifier, a_value, select_before}
-use Rattle.expression_typing.specs.Expressions.{Known, before, one_more, or_else, value}
-use Rattle.expression_typing.specs.FinalVariables.{Scope}
+use Rattle.body_typing.specs.Expressions.{Known, before, one_more, or_else, value}
+use Rattle.body_typing.specs.FinalVariables.{Scope}
 
 module _ (p : Program) (k : Known) (s : Scope) where
   pub one_more_gives : (id : Identifier) (span : Span) (n : Option (Judged Qualifier)) (q r : Qualifier) →

@@ -5,7 +5,7 @@ use Rattle.je_core.specs.declared.types.Base.TheVariants as base
 use Rattle.je_scopes.specs.SourceTypes.{SourceType, plain, of_class, of_variable}
 use Rattle.header_typing.specs.Supers.{class_in}
 use Rattle.je_typing.specs.Typed.{element_type}
-use Rattle.expression_typing.specs.Expressions.{class_or_zero, element_or, innermost}
+use Rattle.body_typing.specs.Expressions.{class_or_zero, element_or, innermost}
 use Rattle.name_types.specs.declared.types.SrcTy.{SrcTy}
 use Rattle.name_types.specs.declared.types.SrcBase.{SrcBase, out-SrcBase}
 use Rattle.name_types.specs.declared.types.SrcBase.TheOpen as node

@@ -1,5 +1,5 @@
 -- What contracts see of what an expression is for.
-use Rattle.expression_typing.specs.Expressions as words
+use Rattle.body_typing.specs.Expressions as words
 use Rattle.name_types.specs.View.{shown}
 use Rattle.expression_forms.specs.declared.purpose.Purpose.{Purpose}
 use Rattle.expression_forms.specs.declared.purpose.Purpose.TheVariants.{Read, Assigned, Updated, Initial}

@@ -7,7 +7,7 @@ ghost use Rattle.je_typing.specs.Arrays.{array_type, elements_if, elements_node,
 ghost use Rattle.je_typing.specs.Judged.{bind, gives};
 ghost use Rattle.je_typing.specs.Typed.{element_type as the_element_type};
 ghost use Rattle.name_types.specs.View.{base_shown, shown};
-ghost use Rattle.expression_typing.specs.Expressions.{array_over as the_array_over, element_or as the_element_or, innermost};
+ghost use Rattle.body_typing.specs.Expressions.{array_over as the_array_over, element_or as the_element_or, innermost};
 ghost use Rattle.array_making.specs.Parts.{part_seen};
 ghost use Rattle.source_subtypes.specs.View.{heads_of};
 ghost use Rattle.typed_nodes.specs.Seen.{seen};

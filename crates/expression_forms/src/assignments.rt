@@ -4,7 +4,7 @@ ghost use Rattle.std.specs.Prelude.{◌≡◌, IfErr, IfOk};
 ghost use Rattle.je_typing.specs.Answers.{IsFault};
 ghost use Rattle.je_typing.specs.Assignments.{assignment as the_assignment, compound as the_compound, stepped as the_stepped};
 ghost use Rattle.je_typing.specs.Judged.{gives};
-ghost use Rattle.expression_typing.specs.Expressions.{assign_step, assigned_by};
+ghost use Rattle.body_typing.specs.Expressions.{assign_step, assigned_by};
 ghost use Rattle.body_scopes.specs.View.{scope_seen};
 ghost use Rattle.typed_nodes.specs.Seen.{seen};
 ghost use Rattle.body_walks.specs.Seen.{known_in, program_in};

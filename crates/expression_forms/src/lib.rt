@@ -1,7 +1,7 @@
 //! The forms of expressions in a body, of parts that are judged: each is a step of its own chapter, with what is known of
 //! all classes and of the scope (JLS 15).
 //!
-//! Contracts see what an expression is for by `purpose_seen`, as that of `expression_typing`. `Ok` comes only where the
+//! Contracts see what an expression is for by `purpose_seen`, as that of `body_typing`. `Ok` comes only where the
 //! definition gives, with that node and type; `Err` with a fault only where it is faulty with it; else memory was wanting.
 #![tactic(auto)]
 

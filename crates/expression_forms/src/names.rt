@@ -6,7 +6,7 @@ ghost use Rattle.je_typing.specs.Answers.{IsFault};
 ghost use Rattle.je_typing.specs.Judged.{Judged, bind, gives};
 ghost use Rattle.je_typing.specs.Typed.{TypedNode};
 ghost use Rattle.name_typing.specs.Accesses.{super_field as the_super_field};
-ghost use Rattle.expression_typing.specs.Expressions.{before, named_before as the_named_before, one_more, selected as the_selected, simple as the_simple, taken_for};
+ghost use Rattle.body_typing.specs.Expressions.{before, named_before as the_named_before, one_more, selected as the_selected, simple as the_simple, taken_for};
 ghost use Rattle.body_scopes.specs.View.{scope_seen};
 ghost use Rattle.qualified_steps.specs.Qualifiers.{qualifier_seen};
 ghost use Rattle.typed_nodes.specs.Seen.{seen};

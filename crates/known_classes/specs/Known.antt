@@ -3,7 +3,7 @@ use Rattle.std.specs.Prelude.{ℕ, List, [], map, Option, Some, None, slice_get}
 use Rattle.std.specs.declared.vec.Vec.{Vec}
 use Rattle.std.specs.declared.alloc.Global.{Global}
 use Rattle.name_typing.specs.Program as program
-use Rattle.expression_typing.specs.Expressions as expressions
+use Rattle.body_typing.specs.Expressions as expressions
 use Rattle.class_typing.specs.Captures.{captures}
 use Rattle.class_typing.specs.Programs as programs
 use Rattle.body_places.specs.declared.place.Frame.{Frame}

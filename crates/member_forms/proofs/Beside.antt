@@ -10,9 +10,9 @@ use Rattle.je_typing.specs.Answers.{IsFault}
 use Rattle.je_typing.specs.Judged.{Judged, bind, gives}
 use Rattle.je_typing.proofs.Walks.{bind_faults, bind_gives}
 use Rattle.written_types.proofs.Walking.{fault_of}
-use Rattle.expression_typing.specs.FinalVariables.{Scope}
-use Rattle.statement_typing.specs.Bodies.{Progress}
-use Rattle.statement_typing.specs.LocalVariables.{new_name}
+use Rattle.body_typing.specs.FinalVariables.{Scope}
+use Rattle.body_typing.specs.Bodies.{Progress}
+use Rattle.body_typing.specs.LocalVariables.{new_name}
 use Rattle.class_typing.specs.Members.{Begun}
 use Rattle.member_forms.specs.declared.walk.ClassWalk.{ClassWalk}
 use Rattle.member_forms.specs.Seen.{program_of}

@@ -11,7 +11,7 @@ use Rattle.je_typing.specs.Judged.{gives}
 use Rattle.je_typing.specs.Typed.{TypedNode}
 use Rattle.je_typing.proofs.Walks.{bind_gives}
 use Rattle.name_typing.specs.Program.{Constant}
-use Rattle.expression_typing.specs.ConstantVariables.{variable_constant}
+use Rattle.body_typing.specs.ConstantVariables.{variable_constant}
 use Rattle.member_forms.specs.declared.walk.ClassWalk.{ClassWalk}
 use Rattle.member_forms.specs.Seen.{program_of}
 use Rattle.member_forms.specs.Walks.{field_code, initialized_by}

@@ -2,7 +2,7 @@
 use Rattle.std.specs.Prelude.{List, map, option_map}
 use Rattle.je_core.specs.View.{initializer_view, method_view, view}
 use Rattle.name_typing.specs.Program.{Frame, Program}
-use Rattle.expression_typing.specs.Expressions.{Known}
+use Rattle.body_typing.specs.Expressions.{Known}
 use Rattle.class_typing.specs.Members as words
 use Rattle.body_places.specs.Places.{frame_seen}
 use Rattle.body_walks.specs.Seen.{known_in, program_in}

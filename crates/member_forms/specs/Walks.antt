@@ -19,10 +19,10 @@ use Rattle.name_typing.specs.Program.{Constant, Initializer}
 use Rattle.call_typing.specs.Constructors.{constructor_for}
 use Rattle.call_typing.specs.Creations.{made_of}
 use Rattle.call_typing.specs.Overloads.{Candidate}
-use Rattle.expression_typing.specs.ConstantVariables.{variable_constant}
-use Rattle.expression_typing.specs.Expressions.{anonymous_type}
-use Rattle.expression_typing.specs.FinalVariables.{Scope}
-use Rattle.statement_typing.specs.Bodies.{Done, Progress}
+use Rattle.body_typing.specs.ConstantVariables.{variable_constant}
+use Rattle.body_typing.specs.Expressions.{anonymous_type}
+use Rattle.body_typing.specs.FinalVariables.{Scope}
+use Rattle.body_typing.specs.Bodies.{Done, Progress}
 use Rattle.class_typing.specs.Members as words
 use Rattle.class_typing.specs.Members.{Begun, BodyDone, MembersDone}
 use Rattle.member_forms.specs.declared.walk.ClassWalk.{ClassWalk}

@@ -1,7 +1,7 @@
 // Initializers (JLS 8.6, 8.7).
 
 ghost use Rattle.std.specs.Prelude.{◌≡◌, IfOk};
-ghost use Rattle.expression_typing.specs.FinalVariables.{Scope as Seen};
+ghost use Rattle.body_typing.specs.FinalVariables.{Scope as Seen};
 ghost use Rattle.body_scopes.specs.View.{scope_seen};
 ghost use Rattle.statement_forms.specs.Seen.{done_in, progress_seen};
 ghost use Rattle.member_forms.specs.Seen.{members_seen};

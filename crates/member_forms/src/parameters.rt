@@ -7,7 +7,7 @@ ghost use Rattle.je_typing.specs.Judged.{gives};
 ghost use Rattle.name_types.specs.View.{shown};
 ghost use Rattle.source_subtypes.specs.View.{heads_of};
 ghost use Rattle.statement_steps.specs.View.{returning_seen};
-ghost use Rattle.statement_typing.specs.LocalVariables.{new_name as the_new_name};
+ghost use Rattle.body_typing.specs.LocalVariables.{new_name as the_new_name};
 ghost use Rattle.class_typing.specs.Members.{nothing_met as the_nothing_met, returning_of as the_returning_of};
 ghost use Rattle.body_scopes.specs.View.{scope_seen};
 ghost use Rattle.statement_forms.specs.Seen.{progress_seen};

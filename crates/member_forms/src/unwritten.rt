@@ -12,7 +12,7 @@ ghost use Rattle.name_types.specs.View.{shown};
 ghost use Rattle.typed_nodes.specs.Seen.{seen};
 ghost use Rattle.call_typing.specs.Constructors.{access_in, default_flags};
 ghost use Rattle.call_typing.specs.Creations.{made_of as the_made_of};
-ghost use Rattle.expression_typing.specs.Expressions.{anonymous_type as the_anonymous_type};
+ghost use Rattle.body_typing.specs.Expressions.{anonymous_type as the_anonymous_type};
 ghost use Rattle.overloads.specs.View.{candidate_seen};
 ghost use Rattle.class_typing.specs.Constructors.{declared_parameters as the_declared_parameters, locals_from as the_locals_from, unnamed_local, unwritten_constructor as constructor_named};
 ghost use Rattle.class_typing.specs.Members.{nothing as the_nothing};

@@ -3,8 +3,8 @@ use Rattle.std.proofs.Common.{◌≡◌, ℕ, zero, suc, [], ◌∷◌, refl}
 use Rattle.std.specs.Prelude.{is_none, if◌then◌else◌}
 use Rattle.name_typing.specs.Program.{LocalVariable, Program, frames}
 use Rattle.name_typing.specs.Variables.{a_local, class_of_frame}
-use Rattle.expression_typing.specs.FinalVariables.{Scope}
-use Rattle.statement_typing.specs.Bodies.{captures, local_met}
+use Rattle.body_typing.specs.FinalVariables.{Scope}
+use Rattle.body_typing.specs.Bodies.{captures, local_met}
 
 pub further : (p : Program) (s : Scope) (n : ℕ) (v : LocalVariable) → (n ≡ 0 → ⊥) →
     local_met p s (a_local n v) ≡ (if is_none v.constant

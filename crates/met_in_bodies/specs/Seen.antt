@@ -1,7 +1,7 @@
 -- What contracts see of what is met in bodies.
 use Rattle.je_ast.specs.Types.{type_view}
 use Rattle.je_ast.specs.View.{views_of}
-use Rattle.statement_typing.specs.Bodies as words
+use Rattle.body_typing.specs.Bodies as words
 use Rattle.met_in_bodies.specs.declared.met.Met.{Met}
 use Rattle.met_in_bodies.specs.declared.met.Met.TheVariants.{Captures, Makes, Stands, StandsBehindNew}
 use Rattle.met_in_bodies.specs.Standings.{standing_seen}

@@ -1,6 +1,6 @@
 -- What contracts see of a scope that is kept.
 use Rattle.std.specs.Prelude.{map}
-use Rattle.expression_typing.specs.FinalVariables.{Scope}
+use Rattle.body_typing.specs.FinalVariables.{Scope}
 use Rattle.body_places.specs.Places.{frame_seen}
 use Rattle.met_in_bodies.specs.declared.met.Standing.{Standing}
 

@@ -1,8 +1,8 @@
 //! What the expressions of bodies mention: locals of the bodies round them, classes of which they make objects, and classes
 //! whose bodies stand in them.
 //!
-//! Contracts see a `Met` by `met_seen`, as that of `statement_typing`, and a `Standing` by `standing_seen`, as a scope of
-//! `expression_typing`. What is met comes behind what was met before; an `Err` says that memory was wanting.
+//! Contracts see a `Met` by `met_seen`, as that of `body_typing`, and a `Standing` by `standing_seen`, as a scope of
+//! `body_typing`. What is met comes behind what was met before; an `Err` says that memory was wanting.
 #![tactic(auto)]
 
 mod keeping;

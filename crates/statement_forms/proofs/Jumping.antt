@@ -5,9 +5,9 @@ use Rattle.je_base.specs.declared.span.Span.{Span}
 use Rattle.je_ast.specs.declared.name.Identifier.{Identifier}
 use Rattle.je_fitting.specs.Statements.{Targets}
 use Rattle.je_typing.specs.Judged.{bind, gives}
-use Rattle.expression_typing.specs.FinalVariables.{Scope}
+use Rattle.body_typing.specs.FinalVariables.{Scope}
 use Rattle.statement_steps.specs.Jumps.{jump}
-use Rattle.statement_typing.specs.Bodies.{Progress, one}
+use Rattle.body_typing.specs.Bodies.{Progress, one}
 use Rattle.statement_forms.specs.declared.walk.Walk.{Walk}
 use Rattle.statement_forms.specs.Written.{a_jump, statement_among}
 

@@ -3,12 +3,12 @@
 use Rattle.std.specs.Prelude.{map}
 use Rattle.je_core.specs.View.{stmt_view}
 use Rattle.name_typing.specs.Program.{Program}
-use Rattle.expression_typing.specs.Expressions.{Known}
-use Rattle.expression_typing.specs.FinalVariables as words
+use Rattle.body_typing.specs.Expressions.{Known}
+use Rattle.body_typing.specs.FinalVariables as words
 use Rattle.statement_steps.specs.Returns.{Returning}
 use Rattle.statement_steps.specs.View.{returning_seen}
-use Rattle.statement_typing.specs.Bodies as bodies
-use Rattle.statement_typing.specs.Statements.{GroupsDone}
+use Rattle.body_typing.specs.Bodies as bodies
+use Rattle.body_typing.specs.Statements.{GroupsDone}
 use Rattle.body_scopes.specs.View.{scope_seen}
 use Rattle.body_scopes.specs.declared.scope.Scope.{Scope}
 use Rattle.body_walks.specs.Seen.{known_in, program_in}

@@ -2,8 +2,8 @@
 
 ghost use Rattle.std.specs.Prelude.{◌≡◌, [], IfOk, OnOk, map};
 ghost use Rattle.je_core.specs.View.{stmt_view, stmt_views, view};
-ghost use Rattle.expression_typing.specs.FinalVariables.{Scope as Seen};
-ghost use Rattle.statement_typing.specs.Bodies.{Progress as Progressed, alone as the_alone, block_of as the_block_of, first_of, followed, one as the_one, performed as the_performed};
+ghost use Rattle.body_typing.specs.FinalVariables.{Scope as Seen};
+ghost use Rattle.body_typing.specs.Bodies.{Progress as Progressed, alone as the_alone, block_of as the_block_of, first_of, followed, one as the_one, performed as the_performed};
 ghost use Rattle.statement_forms.specs.Seen.{done_in};
 
 use je_base::{Memory, Span};

@@ -5,7 +5,7 @@ ghost use Rattle.je_ast.specs.View.{statement_node_view, statement_view};
 ghost use Rattle.je_core.specs.View.{stmt_view};
 ghost use Rattle.je_typing.specs.Answers.{IsFault};
 ghost use Rattle.je_typing.specs.Judged.{gives};
-ghost use Rattle.statement_typing.specs.Statements.{is_for as the_is_for, is_loop as the_is_loop, labelled_code as the_labelled_code, start_of as the_start_of, with_label as the_with_label};
+ghost use Rattle.body_typing.specs.Statements.{is_for as the_is_for, is_loop as the_is_loop, labelled_code as the_labelled_code, start_of as the_start_of, with_label as the_with_label};
 ghost use Rattle.statement_forms.specs.Seen.{known_of, program_of, returning_of};
 
 use crate::walk::{Walk, alloc};

@@ -2,7 +2,7 @@
 //! blocks, jumps, labels, and the steps on what the parts of a `for` and the groups of a `switch` came to (JLS 14).
 //!
 //! Contracts see a `Progress` by `progress_seen`, and what statements come to by `done_in`, as those of
-//! `statement_typing`. `Ok` comes only where the definition gives, with that; `Err` with a fault only where it is
+//! `body_typing`. `Ok` comes only where the definition gives, with that; `Err` with a fault only where it is
 //! faulty with it; else memory was wanting.
 #![tactic(auto)]
 

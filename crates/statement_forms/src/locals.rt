@@ -2,7 +2,7 @@
 
 ghost use Rattle.std.specs.Prelude.{◌≡◌, IfOk, option_map};
 ghost use Rattle.name_types.specs.View.{shown};
-ghost use Rattle.statement_typing.specs.Bodies.{local_of as the_local_of};
+ghost use Rattle.body_typing.specs.Bodies.{local_of as the_local_of};
 ghost use Rattle.body_places.specs.Places.{local_seen};
 ghost use Rattle.body_places.specs.Tables.{constant_seen};
 

@@ -2,9 +2,9 @@
 
 ghost use Rattle.std.specs.Prelude.{◌≡◌, IfOk, OnOk};
 ghost use Rattle.je_core.specs.View.{stmt_view};
-ghost use Rattle.expression_typing.specs.FinalVariables.{Scope as Seen};
-ghost use Rattle.statement_typing.specs.Bodies.{Progress as Progressed};
-ghost use Rattle.statement_typing.specs.Statements.{for_code as the_for_code, with_hidden as the_with_hidden};
+ghost use Rattle.body_typing.specs.FinalVariables.{Scope as Seen};
+ghost use Rattle.body_typing.specs.Bodies.{Progress as Progressed};
+ghost use Rattle.body_typing.specs.Statements.{for_code as the_for_code, with_hidden as the_with_hidden};
 ghost use Rattle.typed_nodes.specs.Seen.{seen};
 ghost use Rattle.statement_forms.specs.Seen.{done_in, known_of, program_of, progress_seen, returning_of};
 

@@ -3,7 +3,7 @@
 ghost use Rattle.std.specs.Prelude.{◌≡◌, ◌+◌, ◌<◌, ◌^◌, IfOk, OnOk};
 ghost use Rattle.name_types.specs.View.{shown};
 ghost use Rattle.source_subtypes.specs.View.{heads_of};
-ghost use Rattle.statement_typing.specs.Bodies.{next_number as the_next_number, with_number};
+ghost use Rattle.body_typing.specs.Bodies.{next_number as the_next_number, with_number};
 ghost use Rattle.statement_forms.specs.Seen.{progress_seen};
 
 use je_base::{Memory, NameId, Span};

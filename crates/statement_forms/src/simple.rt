@@ -3,8 +3,8 @@
 ghost use Rattle.std.specs.Prelude.{◌≡◌, IfErr, IfOk};
 ghost use Rattle.je_typing.specs.Answers.{IsFault};
 ghost use Rattle.je_typing.specs.Judged.{gives};
-ghost use Rattle.expression_typing.specs.FinalVariables.{Scope as Seen};
-ghost use Rattle.statement_typing.specs.Bodies.{Progress as Progressed};
+ghost use Rattle.body_typing.specs.FinalVariables.{Scope as Seen};
+ghost use Rattle.body_typing.specs.Bodies.{Progress as Progressed};
 ghost use Rattle.statement_forms.specs.Seen.{done_in};
 ghost use Rattle.statement_forms.specs.Written.{a_jump, an_empty, statement_among, statement_of};
 

@@ -1,7 +1,7 @@
 // What the walk over the statements of a body goes by.
 
 ghost use Rattle.std.specs.Prelude.{◌≡◌};
-ghost use Rattle.statement_typing.specs.Bodies.{no_name as nameless};
+ghost use Rattle.body_typing.specs.Bodies.{no_name as nameless};
 ghost use Rattle.body_places.specs.View.{program_seen};
 
 use body_walks::Bodies;

@@ -9,9 +9,9 @@ use Rattle.je_typing.specs.Answers.{IsFault}
 use Rattle.je_typing.specs.Judged.{Judged, bind, gives, faulty}
 use Rattle.je_typing.proofs.Walks.{bind_faults, bind_gives}
 use Rattle.statement_steps.specs.Thrown.{caught_class}
-use Rattle.expression_typing.specs.FinalVariables.{Scope}
-use Rattle.statement_typing.specs.Catches.{Clause, clauses}
-use Rattle.statement_typing.specs.LocalVariables.{new_name}
+use Rattle.body_typing.specs.FinalVariables.{Scope}
+use Rattle.body_typing.specs.Catches.{Clause, clauses}
+use Rattle.body_typing.specs.LocalVariables.{new_name}
 use Rattle.statement_parts.specs.way.Clauses.{clause}
 use Rattle.statement_parts.proofs.Following.{bind_behind, bind_kept}
 

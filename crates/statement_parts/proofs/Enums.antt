@@ -9,7 +9,7 @@ use Rattle.name_types.specs.declared.types.SrcTy.{SrcTy}
 use Rattle.name_types.specs.View.{shown}
 use Rattle.source_subtypes.proofs.Equal.{shown-dims}
 use Rattle.header_typing.specs.Supers.{class_in}
-use Rattle.statement_typing.specs.Switches.{enum_of}
+use Rattle.body_typing.specs.Switches.{enum_of}
 use Rattle.statement_parts.specs.way.Enums.{enum_in}
 
 none-more : (n : ℕ) (x : Option ℕ) → None ≡ (if nat_eq (suc n) 0 then x else None)

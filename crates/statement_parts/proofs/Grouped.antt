@@ -9,7 +9,7 @@ use Rattle.je_typing.specs.Answers.{IsFault}
 use Rattle.je_typing.specs.Judged.{Judged, bind, gives}
 use Rattle.je_typing.proofs.Walks.{bind_faults, bind_gives}
 use Rattle.statement_steps.specs.Switches.{LabelsDone, Met, WrittenLabel, labels_from, none_met}
-use Rattle.statement_typing.specs.Switches.{WrittenGroup, core_group, groups_from}
+use Rattle.body_typing.specs.Switches.{WrittenGroup, core_group, groups_from}
 use Rattle.value_statements.specs.declared.met.LabelsMet.{LabelsMet}
 use Rattle.value_statements.specs.Labels.{FailsAt, GivesLabels, Knows, behind}
 use Rattle.statement_parts.proofs.Following.{bind_behind, bind_kept}

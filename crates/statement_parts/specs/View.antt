@@ -2,8 +2,8 @@
 use Rattle.std.specs.Prelude.{map}
 use Rattle.je_core.specs.View.{stmt_view, stmt_views}
 use Rattle.name_types.specs.View.{shown}
-use Rattle.statement_typing.specs.Catches as catches
-use Rattle.statement_typing.specs.Switches as switches
+use Rattle.body_typing.specs.Catches as catches
+use Rattle.body_typing.specs.Switches as switches
 use Rattle.value_statements.specs.Labels.{label_seen}
 use Rattle.statement_parts.specs.declared.catches.Clause.{Clause}
 use Rattle.statement_parts.specs.declared.switching.WrittenGroup.{WrittenGroup}

@@ -6,7 +6,7 @@ ghost use Rattle.je_core.specs.View.{catch_view};
 ghost use Rattle.je_typing.specs.Answers.{IsFault};
 ghost use Rattle.je_typing.specs.Judged.{gives};
 ghost use Rattle.source_subtypes.specs.View.{heads_of};
-ghost use Rattle.statement_typing.specs.Catches.{clauses as the_clauses};
+ghost use Rattle.body_typing.specs.Catches.{clauses as the_clauses};
 ghost use Rattle.body_scopes.specs.View.{scope_seen};
 ghost use Rattle.statement_parts.specs.View.{clause_seen};
 ghost use Rattle.statement_parts.specs.way.Clauses.{clause as the_clause};

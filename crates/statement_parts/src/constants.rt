@@ -1,7 +1,7 @@
 // Constant variables (JLS 4.12.4).
 
 ghost use Rattle.std.specs.Prelude.{◌≡◌, IfOk, option_map};
-ghost use Rattle.expression_typing.specs.ConstantVariables.{constant_as as the_constant_as, constant_text_if as the_constant_text_if, variable_constant as the_variable_constant};
+ghost use Rattle.body_typing.specs.ConstantVariables.{constant_as as the_constant_as, constant_text_if as the_constant_text_if, variable_constant as the_variable_constant};
 ghost use Rattle.je_core.specs.View.{view};
 ghost use Rattle.je_typing.specs.Typed.{primitive as the_primitive};
 ghost use Rattle.name_types.specs.View.{shown};
@@ -47,7 +47,7 @@ fn constant_as(alloc: Global, ty: &SrcTy, node: &Expr) -> Result<Option<Constant
 
 /// The constant of a variable of a type with that initializer: a final one's of a primitive type or String, where the
 /// initializer is a constant.
-#[tactic(auto, unfolding(expression_typing::specs::ConstantVariables::variable_constant))]
+#[tactic(auto, unfolding(body_typing::specs::ConstantVariables::variable_constant))]
 pub fn variable_constant(
     alloc: Global,
     is_final: bool,

@@ -9,8 +9,8 @@ ghost use Rattle.je_core.specs.View.{stmt_view, stmt_views, view};
 ghost use Rattle.name_types.specs.View.{shown};
 ghost use Rattle.source_subtypes.specs.View.{heads_of};
 ghost use Rattle.source_types.specs.Erasure.{erased as the_erased};
-ghost use Rattle.statement_typing.specs.Bodies.{performed as the_performed};
-ghost use Rattle.statement_typing.specs.ForEach.{array_local as the_array_local, begins as the_begins, element as the_element, is_within as the_is_within, next_index as the_next_index, turns as the_turns, variable_assigned as the_variable_assigned};
+ghost use Rattle.body_typing.specs.Bodies.{performed as the_performed};
+ghost use Rattle.body_typing.specs.ForEach.{array_local as the_array_local, begins as the_begins, element as the_element, is_within as the_is_within, next_index as the_next_index, turns as the_turns, variable_assigned as the_variable_assigned};
 ghost use Rattle.typed_nodes.specs.Seen.{seen};
 
 use fit_parts::of;

@@ -1,7 +1,7 @@
 //! Parts of statements, of what a walk over statements made of theirs: the enhanced `for`, `switch`, the clauses of a
 //! `try`, and local variables with their constants.
 //!
-//! `Ok` comes only where the step of `statement_typing` gives, with what it gives; `Err` with a fault only where the
+//! `Ok` comes only where the step of `body_typing` gives, with what it gives; `Err` with a fault only where the
 //! step is faulty with it; else memory was wanting.
 #![tactic(auto)]
 

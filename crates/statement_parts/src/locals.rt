@@ -8,7 +8,7 @@ ghost use Rattle.je_typing.specs.Assignments.{assign_node};
 ghost use Rattle.je_typing.specs.Judged.{gives};
 ghost use Rattle.name_typing.specs.Variables.{typed_local as the_typed_local};
 ghost use Rattle.source_subtypes.specs.View.{heads_of};
-ghost use Rattle.statement_typing.specs.LocalVariables.{new_name as the_new_name};
+ghost use Rattle.body_typing.specs.LocalVariables.{new_name as the_new_name};
 ghost use Rattle.body_places.specs.Places.{local_seen};
 ghost use Rattle.body_places.specs.View.{program_seen};
 ghost use Rattle.body_scopes.specs.View.{scope_seen};

@@ -6,7 +6,7 @@ ghost use Rattle.je_ast.specs.View.{node_view, view};
 ghost use Rattle.je_core.specs.declared.types.ClassId.{ClassId as ClassNumber};
 ghost use Rattle.name_types.specs.View.{shown};
 ghost use Rattle.source_subtypes.specs.View.{heads_of};
-ghost use Rattle.statement_typing.specs.Switches.{constant_place as the_constant_place, enum_of as the_enum_of, is_constant_name, place_node as the_place_node, selected_by as the_selected_by};
+ghost use Rattle.body_typing.specs.Switches.{constant_place as the_constant_place, enum_of as the_enum_of, is_constant_name, place_node as the_place_node, selected_by as the_selected_by};
 ghost use Rattle.typed_nodes.specs.Seen.{seen};
 ghost use Rattle.statement_parts.specs.way.Enums.{enum_in as the_enum_in};
 

@@ -1,9 +1,9 @@
 -- A scope with one local class more has all of the earlier one.
 use Rattle.std.proofs.Common.{◌≡◌, ℕ, [], ◌∷◌, map, sym, subst}
 use Rattle.je_core.specs.View.{stmt_view}
-use Rattle.expression_typing.specs.FinalVariables.{Scope}
-use Rattle.statement_typing.specs.Bodies.{Progress, stands, with_local_class, with_met}
-use Rattle.statement_typing.specs.LocalClasses.{with_class}
+use Rattle.body_typing.specs.FinalVariables.{Scope}
+use Rattle.body_typing.specs.Bodies.{Progress, stands, with_local_class, with_met}
+use Rattle.body_typing.specs.LocalClasses.{with_class}
 use Rattle.statement_forms.specs.declared.done.Done.{Done as Made}
 use Rattle.statement_forms.specs.Seen.{done_in}
 use Rattle.body_scopes.specs.Extending.{Extends}

@@ -9,8 +9,8 @@ use Rattle.je_ast.specs.Trees.{Expression}
 use Rattle.je_typing.specs.Assignments.{assign_node}
 use Rattle.name_typing.specs.Program.{LocalVariable, Program}
 use Rattle.name_typing.specs.Variables.{typed_local}
-use Rattle.expression_typing.specs.FinalVariables.{Scope}
-use Rattle.statement_typing.specs.Bodies.{Progress, behind, performed, with_local, with_number}
+use Rattle.body_typing.specs.FinalVariables.{Scope}
+use Rattle.body_typing.specs.Bodies.{Progress, behind, performed, with_local, with_number}
 use Rattle.statement_values.specs.way.Declared.{declared}
 
 pub declared_is : (p : Program) (is_final : Bool) (start : Span) (s inside : Scope) (pr numbered later : Progress) (v : LocalVariable) (id : Identifier) (e : Expression)

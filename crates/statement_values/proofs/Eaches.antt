@@ -13,10 +13,10 @@ use Rattle.je_typing.specs.Conversions.{assigned}
 use Rattle.je_typing.specs.Judged.{Judged, gives, need}
 use Rattle.je_typing.specs.Typed.{TypedNode, element_type}
 use Rattle.je_typing.proofs.Walks.{bind_faults, bind_gives, fault_later}
-use Rattle.expression_typing.specs.FinalVariables.{Scope}
-use Rattle.statement_typing.specs.ForEach.{element}
-use Rattle.statement_typing.specs.LocalVariables.{new_name}
-use Rattle.statement_typing.specs.Statements.{for_each_code, for_each_judged}
+use Rattle.body_typing.specs.FinalVariables.{Scope}
+use Rattle.body_typing.specs.ForEach.{element}
+use Rattle.body_typing.specs.LocalVariables.{new_name}
+use Rattle.body_typing.specs.Statements.{for_each_code, for_each_judged}
 use Rattle.statement_forms.specs.declared.walk.Walk.{Walk}
 use Rattle.statement_forms.specs.Seen.{known_of, program_of, returning_of}
 

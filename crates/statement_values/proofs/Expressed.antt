@@ -9,10 +9,10 @@ use Rattle.je_typing.specs.Typed.{TypedNode}
 use Rattle.je_typing.proofs.Walks.{bind_gives}
 use Rattle.statement_steps.specs.Returns.{returned, returned_value}
 use Rattle.statement_steps.specs.Thrown.{thrown}
-use Rattle.expression_typing.specs.Expressions.{expression, read}
-use Rattle.expression_typing.specs.FinalVariables.{Scope}
-use Rattle.statement_typing.specs.Bodies.{Done, Progress, behind, one, performed}
-use Rattle.statement_typing.specs.Statements.{valued}
+use Rattle.body_typing.specs.Expressions.{expression, read}
+use Rattle.body_typing.specs.FinalVariables.{Scope}
+use Rattle.body_typing.specs.Bodies.{Done, Progress, behind, one, performed}
+use Rattle.body_typing.specs.Statements.{valued}
 use Rattle.statement_forms.specs.declared.walk.Walk.{Walk}
 use Rattle.statement_forms.specs.Seen.{known_of, program_of, returning_of}
 use Rattle.statement_forms.specs.Written.{statement_of}

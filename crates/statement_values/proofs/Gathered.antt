@@ -3,8 +3,8 @@ use Rattle.std.proofs.Common.{◌≡◌, ℕ, ◌+◌, ◌<◌, ◌≤◌, List,
 use Rattle.je_typing.specs.declared.fault.Refusal.{Refusal}
 use Rattle.je_typing.specs.Answers.{IsFault}
 use Rattle.je_typing.specs.Judged.{Judged, gives, bind}
-use Rattle.expression_typing.specs.FinalVariables.{Scope}
-use Rattle.statement_typing.specs.Bodies.{Done, Progress, followed, nothing_done}
+use Rattle.body_typing.specs.FinalVariables.{Scope}
+use Rattle.body_typing.specs.Bodies.{Done, Progress, followed, nothing_done}
 use Rattle.statement_parts.proofs.Following.{bind_kept}
 use Rattle.statement_values.proofs.Gathering.{gather_fails, gathered, gathered_all, gathers_on}
 

@@ -16,11 +16,11 @@ use Rattle.je_typing.specs.Judged.{Judged, gives}
 use Rattle.je_typing.specs.Typed.{TypedNode}
 use Rattle.je_typing.proofs.Walks.{bind_faults, bind_gives, fault_later}
 use Rattle.name_typing.specs.Program.{Constant, LocalVariable}
-use Rattle.expression_typing.specs.ConstantVariables.{variable_constant}
-use Rattle.expression_typing.specs.Expressions.{expression, initial, value}
-use Rattle.expression_typing.specs.FinalVariables.{Scope}
-use Rattle.statement_typing.specs.Bodies.{Done, Progress, local_of, next_number, with_local}
-use Rattle.statement_typing.specs.LocalVariables.{new_name, with_initializer}
+use Rattle.body_typing.specs.ConstantVariables.{variable_constant}
+use Rattle.body_typing.specs.Expressions.{expression, initial, value}
+use Rattle.body_typing.specs.FinalVariables.{Scope}
+use Rattle.body_typing.specs.Bodies.{Done, Progress, local_of, next_number, with_local}
+use Rattle.body_typing.specs.LocalVariables.{new_name, with_initializer}
 use Rattle.statement_forms.specs.declared.walk.Walk.{Walk}
 use Rattle.statement_forms.specs.Seen.{known_of, program_of}
 use Rattle.statement_values.specs.way.Declared.{declared}

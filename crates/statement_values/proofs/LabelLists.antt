@@ -10,10 +10,10 @@ use Rattle.je_typing.specs.declared.fault.Refusal.{Refusal}
 use Rattle.je_typing.specs.Answers.{IsFault}
 use Rattle.je_typing.specs.Judged.{Judged, gives, bind}
 use Rattle.je_typing.specs.Typed.{TypedNode}
-use Rattle.expression_typing.specs.FinalVariables.{Scope}
+use Rattle.body_typing.specs.FinalVariables.{Scope}
 use Rattle.statement_steps.specs.Switches.{WrittenLabel, case}
-use Rattle.statement_typing.specs.Bodies.{Progress}
-use Rattle.statement_typing.specs.Switches.{LabelsMet, label_value, labels, one_more}
+use Rattle.body_typing.specs.Bodies.{Progress}
+use Rattle.body_typing.specs.Switches.{LabelsMet, label_value, labels, one_more}
 use Rattle.value_statements.specs.declared.labels.WrittenLabel.{WrittenLabel as Written}
 use Rattle.value_statements.specs.Labels.{label_seen}
 use Rattle.statement_parts.proofs.Following.{bind_behind, bind_kept}

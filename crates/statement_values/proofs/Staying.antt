@@ -2,8 +2,8 @@
 use Rattle.std.proofs.Common.{◌≡◌, sym, subst}
 use Rattle.std.specs.Prelude.{Bool}
 use Rattle.name_typing.specs.Program.{LocalVariable}
-use Rattle.expression_typing.specs.FinalVariables.{Scope}
-use Rattle.statement_typing.specs.Bodies.{with_local}
+use Rattle.body_typing.specs.FinalVariables.{Scope}
+use Rattle.body_typing.specs.Bodies.{with_local}
 use Rattle.body_scopes.specs.Extending.{Extends}
 use Rattle.body_scopes.proofs.Extending.{local_extends}
 

@@ -13,10 +13,10 @@ use Rattle.je_typing.specs.declared.fault.Refusal.{Refusal}
 use Rattle.je_typing.specs.Answers.{IsFault}
 use Rattle.je_typing.specs.Judged.{Judged, gives}
 use Rattle.je_typing.specs.Typed.{TypedNode}
-use Rattle.expression_typing.specs.Expressions.{expression, read}
-use Rattle.expression_typing.specs.FinalVariables.{Scope}
-use Rattle.statement_typing.specs.Bodies.{Done, Progress, behind, followed, nothing_done, one, performed}
-use Rattle.statement_typing.specs.Statements.{ListDone, none_done, one_more, performed_steps, steps}
+use Rattle.body_typing.specs.Expressions.{expression, read}
+use Rattle.body_typing.specs.FinalVariables.{Scope}
+use Rattle.body_typing.specs.Bodies.{Done, Progress, behind, followed, nothing_done, one, performed}
+use Rattle.body_typing.specs.Statements.{ListDone, none_done, one_more, performed_steps, steps}
 use Rattle.statement_parts.proofs.Following.{bind_kept}
 use Rattle.statement_forms.specs.declared.walk.Walk.{Walk}
 use Rattle.statement_forms.specs.Seen.{known_of, program_of, returning_of}

@@ -9,8 +9,8 @@ use Rattle.je_scopes.specs.SourceTypes.{SourceType}
 use Rattle.je_typing.specs.declared.fault.Refusal.{Refusal}
 use Rattle.je_typing.specs.Answers.{IsFault}
 use Rattle.je_typing.specs.Judged.{Judged, gives}
-use Rattle.statement_typing.specs.Bodies.{Done, followed, nothing_done}
-use Rattle.statement_typing.specs.LocalVariables.{variable, variables}
+use Rattle.body_typing.specs.Bodies.{Done, followed, nothing_done}
+use Rattle.body_typing.specs.LocalVariables.{variable, variables}
 use Rattle.statement_forms.specs.declared.walk.Walk.{Walk}
 use Rattle.statement_forms.specs.Seen.{known_of, program_of}
 use Rattle.statement_values.proofs.Gathering.{gathered}

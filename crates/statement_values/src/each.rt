@@ -10,9 +10,9 @@ ghost use Rattle.je_typing.specs.declared.fault.TypeRule.TheVariants.{BadForEach
 ghost use Rattle.je_typing.specs.Judged.{gives, need};
 ghost use Rattle.je_typing.specs.Typed.{element_type as the_element_type};
 ghost use Rattle.source_subtypes.specs.View.{heads_of};
-ghost use Rattle.statement_typing.specs.ForEach.{element as the_element};
+ghost use Rattle.body_typing.specs.ForEach.{element as the_element};
 ghost use Rattle.name_types.specs.View.{shown};
-ghost use Rattle.statement_typing.specs.Statements.{for_each_code as the_for_each_code, for_each_judged as the_for_each_judged};
+ghost use Rattle.body_typing.specs.Statements.{for_each_code as the_for_each_code, for_each_judged as the_for_each_judged};
 ghost use Rattle.typed_nodes.specs.Seen.{seen};
 ghost use Rattle.body_scopes.specs.View.{scope_seen};
 ghost use Rattle.statement_forms.specs.Seen.{known_of, program_of, returning_of};

@@ -4,7 +4,7 @@ ghost use Rattle.std.specs.Prelude.{◌≡◌, IfErr, IfOk, OnOk};
 ghost use Rattle.je_ast.specs.View.{for_initializer_node_view, for_initializer_view};
 ghost use Rattle.je_typing.specs.Answers.{IsFault};
 ghost use Rattle.je_typing.specs.Judged.{gives};
-ghost use Rattle.statement_typing.specs.Statements.{for_start as the_for_start};
+ghost use Rattle.body_typing.specs.Statements.{for_start as the_for_start};
 ghost use Rattle.body_scopes.specs.Extending.{Extends};
 ghost use Rattle.body_scopes.specs.View.{scope_seen};
 ghost use Rattle.body_walks.specs.Seen.{HasAllMethods};

@@ -2,7 +2,7 @@
 //! mention, declarations of locals, what a `for` begins with, the labels of a `switch`, `return` and `throw` (JLS 14).
 //!
 //! Contracts see a `Progress` by `progress_seen`, and what statements come to by `done_in`, as those of
-//! `statement_typing`. `Ok` comes only where the definition gives, with that; `Err` with a fault only where it is
+//! `body_typing`. `Ok` comes only where the definition gives, with that; `Err` with a fault only where it is
 //! faulty with it; else memory was wanting. A scope is left as it was, or `Extends` that which it was.
 #![tactic(auto)]
 

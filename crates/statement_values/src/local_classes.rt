@@ -9,8 +9,8 @@ ghost use Rattle.je_typing.specs.Judged.{check as the_check, gives};
 ghost use Rattle.je_typing.specs.declared.fault.TypeRule.TheVariants.{LocalTwice};
 ghost use Rattle.name_lookup.specs.View.{numbers};
 ghost use Rattle.name_sites.specs.View.{source_of};
-ghost use Rattle.statement_typing.specs.Bodies.{stands, with_local_class, with_met};
-ghost use Rattle.statement_typing.specs.LocalClasses.{has_class as the_has_class, local_class as the_local_class, with_class};
+ghost use Rattle.body_typing.specs.Bodies.{stands, with_local_class, with_met};
+ghost use Rattle.body_typing.specs.LocalClasses.{has_class as the_has_class, local_class as the_local_class, with_class};
 ghost use Rattle.body_scopes.specs.Extending.{Extends};
 ghost use Rattle.body_scopes.specs.View.{scope_seen};
 ghost use Rattle.statement_forms.specs.Seen.{done_seen, program_of, progress_seen};
@@ -104,7 +104,7 @@ fn added_class(
 }
 
 // A local class of that name.
-#[tactic(auto, unfolding(statement_typing::specs::LocalClasses::local_class), using(je_typing::proofs::Walks::walks))]
+#[tactic(auto, unfolding(body_typing::specs::LocalClasses::local_class), using(je_typing::proofs::Walks::walks))]
 fn class_named(
     walk: Walk,
     scope: &mut Scope,

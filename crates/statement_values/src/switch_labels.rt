@@ -5,7 +5,7 @@ ghost use Rattle.je_ast.specs.View.{label_view, label_views_of, view};
 ghost use Rattle.je_core.specs.declared.types.ClassId.{ClassId as ClassNumber};
 ghost use Rattle.je_typing.specs.Answers.{IsFault};
 ghost use Rattle.je_typing.specs.Judged.{gives};
-ghost use Rattle.statement_typing.specs.Switches.{behind_label as the_behind_label, constants_of as the_constants_of, label_value as the_label_value, labels as the_labels};
+ghost use Rattle.body_typing.specs.Switches.{behind_label as the_behind_label, constants_of as the_constants_of, label_value as the_label_value, labels as the_labels};
 ghost use Rattle.typed_nodes.specs.Seen.{seen};
 ghost use Rattle.value_statements.specs.Labels.{label_seen};
 ghost use Rattle.body_places.specs.View.{program_seen};

@@ -5,8 +5,8 @@ ghost use Rattle.je_ast.specs.View.{view};
 ghost use Rattle.je_core.specs.View.{stmt_view};
 ghost use Rattle.je_typing.specs.Answers.{IsFault};
 ghost use Rattle.je_typing.specs.Judged.{gives};
-ghost use Rattle.statement_typing.specs.Bodies.{Progress as Progressed};
-ghost use Rattle.statement_typing.specs.Statements.{switch_judged as the_switch_judged};
+ghost use Rattle.body_typing.specs.Bodies.{Progress as Progressed};
+ghost use Rattle.body_typing.specs.Statements.{switch_judged as the_switch_judged};
 ghost use Rattle.typed_nodes.specs.Seen.{seen};
 ghost use Rattle.statement_forms.specs.Seen.{groups_in, known_of, program_of, returning_of};
 

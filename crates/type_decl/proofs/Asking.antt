@@ -7,7 +7,7 @@ use Rattle.je_classes.specs.Members.{Member}
 use Rattle.declarations.specs.Declarations.{DeclaredClass, DeclaredField}
 use Rattle.name_typing.specs.Fields.{field_at}
 use Rattle.name_typing.specs.Program.{Constant, Frame, Program}
-use Rattle.expression_typing.specs.Expressions.{expression, initial, value}
+use Rattle.body_typing.specs.Expressions.{expression, initial, value}
 use Rattle.class_typing.specs.ConstantFields.{FieldValue, by, no_value, unwritten}
 use Rattle.class_typing.specs.ConstantFields.{constant_by, constant_next, constants_of, constants_within, field_value}
 use Rattle.class_typing.specs.ConstantFields.{if_final, in_initializer, nothing_known}

@@ -15,8 +15,8 @@ use Rattle.declarations.specs.Declarations.{DeclaredClass, DeclaredField}
 use Rattle.name_typing.specs.Fields.{field_at, fields_of}
 use Rattle.name_typing.specs.Program as program
 use Rattle.name_typing.specs.Program.{Frame, Program}
-use Rattle.expression_typing.specs.Expressions.{Known, expression, initial, value}
-use Rattle.expression_typing.specs.FinalVariables.{Scope}
+use Rattle.body_typing.specs.Expressions.{Known, expression, initial, value}
+use Rattle.body_typing.specs.FinalVariables.{Scope}
 use Rattle.body_places.specs.declared.tables.Constant.{Constant}
 use Rattle.body_places.specs.Tables.{constant_at, constant_in, constant_seen}
 use Rattle.body_places.specs.Tables as tables

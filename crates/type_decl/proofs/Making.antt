@@ -13,7 +13,7 @@ use Rattle.je_typing.proofs.Walks.{bind_faults}
 use Rattle.declarations.specs.Declarations.{DeclaredClass, DeclaredField}
 use Rattle.name_typing.specs.Fields.{fields_of}
 use Rattle.name_typing.specs.Program.{Program}
-use Rattle.statement_typing.specs.Bodies.{Met}
+use Rattle.body_typing.specs.Bodies.{Met}
 use Rattle.class_typing.specs.Classes.{core_class, fields_in}
 use Rattle.class_typing.specs.Elaboration.{World, core_classes, hidden_count, members_of}
 use Rattle.class_typing.specs.Members.{MembersDone, class_members}

@@ -8,7 +8,7 @@ use Rattle.je_scopes.specs.Headers.{is_guest, is_local_sort, or_nothing, site_at
 use Rattle.je_scopes.specs.Sites.{Site}
 use Rattle.je_scopes.proofs.Either.{by_either, within_or_past}
 use Rattle.name_typing.specs.Program as program
-use Rattle.statement_typing.specs.Bodies.{Met}
+use Rattle.body_typing.specs.Bodies.{Met}
 use Rattle.body_places.specs.declared.place.Frame.{Frame}
 use Rattle.body_scopes.specs.View.{is_set}
 use Rattle.known_classes.specs.Known.{frames_in, round_seen}

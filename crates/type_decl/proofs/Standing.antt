@@ -5,7 +5,7 @@ use Rattle.std.specs.List.{find}
 use Rattle.je_scopes.specs.Headers.{members_in}
 use Rattle.je_scopes.specs.Sites.{Written, behind_new, declared, in_library}
 use Rattle.je_typing.specs.Judged.{Judged, bind, gives}
-use Rattle.statement_typing.specs.Bodies.{Met}
+use Rattle.body_typing.specs.Bodies.{Met}
 use Rattle.class_typing.specs.Constructors.{no_cycle}
 use Rattle.class_typing.specs.Members.{MembersDone, class_members, followed_by}
 use Rattle.class_typing.specs.Places.{stands_at}

@@ -8,7 +8,7 @@ use Rattle.je_scopes.specs.Sites.{Site}
 use Rattle.je_scopes.specs.Source.{Source}
 use Rattle.declarations.specs.Declarations.{DeclaredClass}
 use Rattle.name_typing.specs.Program.{Constant, Frame, Program}
-use Rattle.statement_typing.specs.Bodies.{Met}
+use Rattle.body_typing.specs.Bodies.{Met}
 use Rattle.class_typing.specs.ConstantFields.{constant_next, constants_of, constants_within}
 use Rattle.class_typing.specs.Elaboration.{constants_behind}
 use Rattle.class_typing.specs.Places.{class_standing, in_body, is_placed, met_at, same_number, stands_at}

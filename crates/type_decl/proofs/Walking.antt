@@ -8,7 +8,7 @@ use Rattle.je_typing.specs.Answers.{IsFault}
 use Rattle.je_typing.specs.Judged.{Judged, gives, faulty, bind}
 use Rattle.je_typing.proofs.Walks.{bind_faults, bind_gives}
 use Rattle.name_typing.specs.Program.{Constant}
-use Rattle.statement_typing.specs.Bodies.{Met}
+use Rattle.body_typing.specs.Bodies.{Met}
 use Rattle.body_walks.specs.Seen.{known_in, program_in}
 use Rattle.body_places.specs.Tables.{constant_at}
 use Rattle.body_scopes.specs.View.{blank_seen}

@@ -7,7 +7,7 @@ use Rattle.je_scopes.specs.BinaryNames.{number_in}
 use Rattle.je_scopes.specs.Source.{Source}
 use Rattle.je_typing.specs.Judged.{Judged}
 use Rattle.name_typing.specs.Program.{Constant}
-use Rattle.statement_typing.specs.Bodies.{Met}
+use Rattle.body_typing.specs.Bodies.{Met}
 use Rattle.declarations.specs.Declarations.{DeclaredClass}
 use Rattle.source_types.specs.Heads.{ClassHead}
 use Rattle.body_scopes.specs.View.{blank_seen}

@@ -7,7 +7,7 @@ ghost use Rattle.je_fitting.specs.Statements.{no_targets as the_no_targets};
 ghost use Rattle.je_typing.specs.Answers.{IsFault};
 ghost use Rattle.je_typing.specs.Judged.{gives};
 ghost use Rattle.statement_steps.specs.View.{returning_seen};
-ghost use Rattle.statement_typing.specs.Statements.{statements as the_statements};
+ghost use Rattle.body_typing.specs.Statements.{statements as the_statements};
 ghost use Rattle.body_scopes.specs.View.{scope_seen};
 ghost use Rattle.body_walks.specs.Seen.{HasAllMethods};
 ghost use Rattle.statement_forms.specs.Seen.{done_seen, progress_seen};

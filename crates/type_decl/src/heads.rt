@@ -6,9 +6,9 @@ ghost use Rattle.je_ast.specs.View.{constructor_invocation_node_view, constructo
 ghost use Rattle.je_typing.specs.Answers.{IsFault};
 ghost use Rattle.je_typing.specs.Judged.{gives};
 ghost use Rattle.typed_nodes.specs.Seen.{seen};
-ghost use Rattle.expression_typing.specs.Expressions.{values as the_values};
-ghost use Rattle.expression_typing.specs.Mentions.{all_mentions};
-ghost use Rattle.statement_typing.specs.Bodies.{met_by, with_met};
+ghost use Rattle.body_typing.specs.Expressions.{values as the_values};
+ghost use Rattle.body_typing.specs.Mentions.{all_mentions};
+ghost use Rattle.body_typing.specs.Bodies.{met_by, with_met};
 ghost use Rattle.class_typing.specs.Captures.{listed};
 ghost use Rattle.class_typing.specs.Constructors.{head_call as the_head_call, in_arguments, met_in_head};
 ghost use Rattle.body_scopes.specs.View.{scope_seen};

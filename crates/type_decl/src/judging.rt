@@ -7,7 +7,7 @@ ghost use Rattle.body_scopes.specs.View.{scope_seen};
 ghost use Rattle.body_walks.specs.Seen.{HasAllMethods, known_in, program_in};
 ghost use Rattle.class_typing.specs.ConstantFields.{if_final, in_initializer, nothing_known, unwritten};
 ghost use Rattle.declarations.specs.View.{field_shown};
-ghost use Rattle.expression_typing.specs.Expressions.{expression, initial, value as the_value};
+ghost use Rattle.body_typing.specs.Expressions.{expression, initial, value as the_value};
 ghost use Rattle.je_ast.specs.View.{view};
 ghost use Rattle.field_values.specs.Values.{value_seen};
 ghost use Rattle.type_decl.specs.way.Asked.{is_asked};

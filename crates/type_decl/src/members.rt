@@ -5,7 +5,7 @@ ghost use Rattle.std.specs.List.{find};
 ghost use Rattle.je_ast.specs.View.{member_node_view, member_view, member_views_of};
 ghost use Rattle.je_typing.specs.Answers.{IsFault};
 ghost use Rattle.je_typing.specs.Judged.{gives};
-ghost use Rattle.statement_typing.specs.Bodies.{Met as SeenMet};
+ghost use Rattle.body_typing.specs.Bodies.{Met as SeenMet};
 ghost use Rattle.class_typing.specs.Members.{class_members as the_class_members};
 ghost use Rattle.class_typing.specs.Places.{stands_at};
 ghost use Rattle.name_walk.specs.View.{written_view};

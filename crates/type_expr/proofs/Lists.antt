@@ -17,7 +17,7 @@ use Rattle.array_making.specs.declared.part.Part.{Part}
 use Rattle.array_making.specs.Parts.{part_seen}
 use Rattle.typed_nodes.specs.declared.typed.TypedExpr.{TypedExpr}
 use Rattle.typed_nodes.specs.Seen.{seen}
-use Rattle.expression_typing.specs.Expressions.{Purpose, initial, part, read}
+use Rattle.body_typing.specs.Expressions.{Purpose, initial, part, read}
 use Rattle.type_expr.specs.Walk.{elements_for_in, lengths_in, value_in, values_in}
 use Rattle.type_expr.specs.way.Lists.{parts_in}
 

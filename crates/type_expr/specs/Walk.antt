@@ -1,4 +1,4 @@
--- The walk of `expression_typing` at a place of a body, by what the code knows of it.
+-- The walk of `body_typing` at a place of a body, by what the code knows of it.
 use Rattle.std.specs.Prelude.{List}
 use Rattle.je_base.specs.declared.span.Span.{Span}
 use Rattle.je_ast.specs.declared.operator.PrefixOp.{PrefixOp}
@@ -9,8 +9,8 @@ use Rattle.je_typing.specs.Arrays.{Part}
 use Rattle.je_typing.specs.Judged.{Judged}
 use Rattle.je_typing.specs.Typed.{TypedNode}
 use Rattle.name_typing.specs.Qualified.{Qualifier}
-use Rattle.expression_typing.specs.Expressions as words
-use Rattle.expression_typing.specs.Expressions.{Purpose}
+use Rattle.body_typing.specs.Expressions as words
+use Rattle.body_typing.specs.Expressions.{Purpose}
 use Rattle.body_scopes.specs.View.{scope_seen}
 use Rattle.body_scopes.specs.declared.scope.Scope.{Scope}
 use Rattle.body_walks.specs.Seen.{known_in, program_in}

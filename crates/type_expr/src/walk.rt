@@ -8,7 +8,7 @@ ghost use Rattle.je_ast.specs.View.{node_view, view, views_of};
 ghost use Rattle.je_typing.specs.Answers.{IsFault};
 ghost use Rattle.je_typing.specs.Judged.{gives};
 ghost use Rattle.name_types.specs.View.{shown};
-ghost use Rattle.expression_typing.specs.Expressions.{element_or as the_element_or, initial, outer as the_outer, read};
+ghost use Rattle.body_typing.specs.Expressions.{element_or as the_element_or, initial, outer as the_outer, read};
 ghost use Rattle.array_making.specs.Parts.{part_seen};
 ghost use Rattle.body_scopes.specs.View.{scope_seen};
 ghost use Rattle.body_walks.specs.Seen.{HasAllMethods, known_in, program_in};

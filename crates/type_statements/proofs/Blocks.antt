@@ -7,7 +7,7 @@ use Rattle.je_fitting.specs.Statements.{Targets}
 use Rattle.je_typing.specs.declared.fault.Refusal.{Refusal}
 use Rattle.je_typing.specs.Answers.{IsFault}
 use Rattle.je_typing.specs.Judged.{Judged, gives}
-use Rattle.statement_typing.specs.Bodies.{Done, followed, nothing_done}
+use Rattle.body_typing.specs.Bodies.{Done, followed, nothing_done}
 use Rattle.statement_forms.specs.declared.walk.Walk.{Walk}
 use Rattle.statement_values.proofs.Gathering.{gathered}
 use Rattle.statement_values.proofs.Gathered.{At, behind_it, done_all, done_fails, done_on, nothing_gathered}

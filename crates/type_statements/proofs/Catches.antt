@@ -15,10 +15,10 @@ use Rattle.written_types.proofs.Walking.{fault_of}
 use Rattle.body_types.specs.BodyTypes.{bare_type}
 use Rattle.je_typing.proofs.Walks.{bind_faults, bind_gives, fault_later}
 use Rattle.name_typing.specs.Program.{LocalVariable}
-use Rattle.expression_typing.specs.FinalVariables.{Scope}
-use Rattle.statement_typing.specs.Bodies.{Done, Progress, block_of, local_of, next_number, with_local, with_number}
-use Rattle.statement_typing.specs.Catches.{Clause, caught_name}
-use Rattle.statement_typing.specs.Statements.{ListDone, catches, clause, none_done, one_more}
+use Rattle.body_typing.specs.FinalVariables.{Scope}
+use Rattle.body_typing.specs.Bodies.{Done, Progress, block_of, local_of, next_number, with_local, with_number}
+use Rattle.body_typing.specs.Catches.{Clause, caught_name}
+use Rattle.body_typing.specs.Statements.{ListDone, catches, clause, none_done, one_more}
 use Rattle.statement_parts.specs.declared.catches.Clause.{Clause as Written}
 use Rattle.statement_parts.specs.View.{clause_seen}
 use Rattle.statement_parts.proofs.Following.{bind_behind, bind_kept}

@@ -17,12 +17,12 @@ use Rattle.je_typing.specs.Typed.{TypedNode}
 use Rattle.je_typing.proofs.Walks.{bind_faults, fault_later}
 use Rattle.written_types.proofs.Walking.{fault_of}
 use Rattle.body_types.specs.BodyTypes.{body_type}
-use Rattle.expression_typing.specs.FinalVariables.{Scope}
+use Rattle.body_typing.specs.FinalVariables.{Scope}
 use Rattle.statement_steps.specs.Conditions.{do_loop, if_statement, loop_statement}
-use Rattle.statement_typing.specs.Bodies.{Done, Progress, alone, behind, local_of, next_number, with_local, with_number}
-use Rattle.statement_typing.specs.Catches.{Clause, clauses}
-use Rattle.statement_typing.specs.Statements.{GroupsDone, ListDone, behind_if, catches, condition_or, condition_span, for_each_judged, for_start, groups, in_label, labelled_code, steps, switch_judged, valued, with_element, with_hidden}
-use Rattle.statement_typing.specs.Switches.{enum_of, selected_by}
+use Rattle.body_typing.specs.Bodies.{Done, Progress, alone, behind, local_of, next_number, with_local, with_number}
+use Rattle.body_typing.specs.Catches.{Clause, clauses}
+use Rattle.body_typing.specs.Statements.{GroupsDone, ListDone, behind_if, catches, condition_or, condition_span, for_each_judged, for_start, groups, in_label, labelled_code, steps, switch_judged, valued, with_element, with_hidden}
+use Rattle.body_typing.specs.Switches.{enum_of, selected_by}
 use Rattle.statement_forms.specs.declared.walk.Walk.{Walk}
 use Rattle.statement_forms.specs.Seen.{known_of, program_of, returning_of}
 use Rattle.type_statements.specs.Walk.{statements_by}

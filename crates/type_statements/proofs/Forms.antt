@@ -12,12 +12,12 @@ use Rattle.je_typing.specs.declared.fault.Refusal.{Refusal}
 use Rattle.je_typing.specs.Judged.{gives}
 use Rattle.je_typing.specs.Typed.{TypedNode}
 use Rattle.je_typing.proofs.Walks.{bind_gives}
-use Rattle.expression_typing.specs.FinalVariables.{Scope}
+use Rattle.body_typing.specs.FinalVariables.{Scope}
 use Rattle.statement_steps.specs.Conditions.{if_statement}
-use Rattle.statement_typing.specs.Bodies.{Done, Progress, alone, behind, block_of, one}
-use Rattle.statement_typing.specs.Catches.{Clause, clauses}
-use Rattle.statement_typing.specs.Statements.{GroupsDone, ListDone, catches, groups, in_label, is_loop, labelled_code, switch_judged, try_code, valued}
-use Rattle.statement_typing.specs.Switches.{enum_of, selected_by}
+use Rattle.body_typing.specs.Bodies.{Done, Progress, alone, behind, block_of, one}
+use Rattle.body_typing.specs.Catches.{Clause, clauses}
+use Rattle.body_typing.specs.Statements.{GroupsDone, ListDone, catches, groups, in_label, is_loop, labelled_code, switch_judged, try_code, valued}
+use Rattle.body_typing.specs.Switches.{enum_of, selected_by}
 use Rattle.statement_forms.specs.declared.done.Done.{Done as Made}
 use Rattle.statement_forms.specs.declared.walk.Walk.{Walk}
 use Rattle.statement_forms.specs.Seen.{done_in, known_of, program_of, returning_of}

@@ -9,10 +9,10 @@ use Rattle.je_typing.specs.declared.fault.Refusal.{Refusal}
 use Rattle.je_typing.specs.Answers.{IsFault}
 use Rattle.je_typing.specs.Judged.{Judged, gives, bind}
 use Rattle.je_typing.proofs.Walks.{bind_faults, bind_gives, fault_later}
-use Rattle.expression_typing.specs.FinalVariables.{Scope}
-use Rattle.statement_typing.specs.Bodies.{Done, Progress, with_classes_of}
-use Rattle.statement_typing.specs.Statements.{GroupsDone, groups}
-use Rattle.statement_typing.specs.Switches.{LabelsMet, WrittenGroup, labels}
+use Rattle.body_typing.specs.FinalVariables.{Scope}
+use Rattle.body_typing.specs.Bodies.{Done, Progress, with_classes_of}
+use Rattle.body_typing.specs.Statements.{GroupsDone, groups}
+use Rattle.body_typing.specs.Switches.{LabelsMet, WrittenGroup, labels}
 use Rattle.body_scopes.specs.Extending.{Extends}
 use Rattle.statement_parts.proofs.Following.{bind_behind, bind_kept}
 use Rattle.statement_forms.specs.declared.walk.Walk.{Walk}

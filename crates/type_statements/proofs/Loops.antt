@@ -13,10 +13,10 @@ use Rattle.je_typing.specs.Judged.{gives}
 use Rattle.je_typing.specs.Typed.{TypedNode}
 use Rattle.je_typing.proofs.Walks.{bind_gives}
 use Rattle.body_types.specs.BodyTypes.{body_type}
-use Rattle.expression_typing.specs.FinalVariables.{Scope}
+use Rattle.body_typing.specs.FinalVariables.{Scope}
 use Rattle.statement_steps.specs.Conditions.{do_loop, loop_statement}
-use Rattle.statement_typing.specs.Bodies.{Done, Progress, alone, behind, local_of, next_number, one, with_local, with_number}
-use Rattle.statement_typing.specs.Statements.{behind_if, condition_or, condition_span, for_code, for_each_judged, for_start, steps, valued, with_element, with_hidden}
+use Rattle.body_typing.specs.Bodies.{Done, Progress, alone, behind, local_of, next_number, one, with_local, with_number}
+use Rattle.body_typing.specs.Statements.{behind_if, condition_or, condition_span, for_code, for_each_judged, for_start, steps, valued, with_element, with_hidden}
 use Rattle.statement_forms.specs.declared.walk.Walk.{Walk}
 use Rattle.statement_forms.specs.Seen.{known_of, program_of, returning_of}
 use Rattle.type_statements.specs.way.Written.{a_do_while, a_for, a_for_each, a_while, statement_by}

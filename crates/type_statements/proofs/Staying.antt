@@ -1,6 +1,6 @@
 -- A scope that is left as it was, or to which a local was added.
 use Rattle.std.proofs.Common.{◌≡◌, sym, subst}
-use Rattle.expression_typing.specs.FinalVariables.{Scope}
+use Rattle.body_typing.specs.FinalVariables.{Scope}
 use Rattle.body_scopes.specs.Extending.{Extends}
 use Rattle.body_scopes.proofs.Extending.{extends_itself}
 pub use Rattle.statement_values.proofs.Staying.{local_added}

@@ -7,7 +7,7 @@ ghost use Rattle.je_core.specs.declared.types.ClassId.{ClassId as ClassNumber};
 ghost use Rattle.je_core.specs.View.{stmt_view};
 ghost use Rattle.je_typing.specs.Answers.{IsFault};
 ghost use Rattle.je_typing.specs.Judged.{gives};
-ghost use Rattle.statement_typing.specs.Statements.{catches as the_catches, groups as the_groups};
+ghost use Rattle.body_typing.specs.Statements.{catches as the_catches, groups as the_groups};
 ghost use Rattle.body_scopes.specs.Extending.{Extends};
 ghost use Rattle.body_scopes.specs.View.{scope_seen};
 ghost use Rattle.statement_parts.specs.View.{clause_seen};

@@ -3,7 +3,7 @@ use Rattle.std.specs.Prelude.{◌≡◌, ℕ, ◌<◌, ◌≤◌, Bool, true, Li
 use Rattle.std.specs.List.{Contains, list_any}
 use Rattle.je_scopes.specs.Headers.{site_at}
 use Rattle.name_typing.specs.Program.{Frame, Program}
-use Rattle.statement_typing.specs.Bodies.{Met, captures}
+use Rattle.body_typing.specs.Bodies.{Met, captures}
 use Rattle.class_typing.specs.Captures.{captures_within}
 use Rattle.capturing.specs.declared.kept.Kept.{Kept}
 use Rattle.capturing.specs.declared.users.Users.{Users}

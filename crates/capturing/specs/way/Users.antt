@@ -10,7 +10,7 @@ use Rattle.source_types.specs.Heads.{supers_of}
 use Rattle.header_typing.specs.Supers.{class_in}
 use Rattle.name_lookup.specs.View.{numbers}
 use Rattle.name_typing.specs.Program.{Frame, Program}
-use Rattle.statement_typing.specs.Bodies.{Met, makes}
+use Rattle.body_typing.specs.Bodies.{Met, makes}
 use Rattle.class_typing.specs.Captures.{classes_near}
 use Rattle.capturing.specs.declared.users.Users.{Users}
 

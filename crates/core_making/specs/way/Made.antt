@@ -11,7 +11,7 @@ use Rattle.source_types.specs.Erasure.{class_numbered}
 use Rattle.source_types.specs.Heads.{supers_of}
 use Rattle.declarations.specs.Declarations.{DeclaredClass, DeclaredField}
 use Rattle.name_typing.specs.Program.{Program}
-use Rattle.expression_typing.specs.Expressions.{name_span}
+use Rattle.body_typing.specs.Expressions.{name_span}
 use Rattle.class_typing.specs.Classes.{classes_of_types, declared_field, declared_from, declared_heads, heads_from, interfaces_if, kind_in, superclass_if}
 use Rattle.class_typing.specs.Programs.{CapturedLocal, enclosing, number}
 use Rattle.core_making.specs.way.HiddenFields.{hidden_fields}

@@ -7,7 +7,7 @@ use Rattle.je_ast.specs.Trees.{Expression}
 use Rattle.source_types.specs.Erasure.{class_numbered, erased}
 use Rattle.declarations.specs.Declarations.{DeclaredField}
 use Rattle.name_typing.specs.Program.{Constant}
-use Rattle.statement_typing.specs.Bodies.{met_in_expression}
+use Rattle.body_typing.specs.Bodies.{met_in_expression}
 use Rattle.class_typing.specs.Members.{MembersDone, nothing}
 use Rattle.member_forms.specs.declared.walk.ClassWalk.{ClassWalk}
 use Rattle.member_forms.specs.Seen.{program_of}

@@ -8,7 +8,7 @@ use Rattle.source_types.specs.Erasure.{class_numbered}
 use Rattle.declarations.specs.Declarations.{DeclaredMethod}
 use Rattle.call_typing.specs.Constructors.{access_in, default_flags}
 use Rattle.call_typing.specs.Overloads.{Candidate}
-use Rattle.statement_typing.specs.Bodies.{performed}
+use Rattle.body_typing.specs.Bodies.{performed}
 use Rattle.class_typing.specs.Constructors as words
 use Rattle.class_typing.specs.Constructors.{locals_from}
 use Rattle.member_forms.specs.declared.walk.ClassWalk.{ClassWalk}

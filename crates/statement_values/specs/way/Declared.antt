@@ -8,8 +8,8 @@ use Rattle.je_ast.specs.Trees.{Expression}
 use Rattle.je_typing.specs.Assignments.{assign_node}
 use Rattle.name_typing.specs.Program.{LocalVariable, Program}
 use Rattle.name_typing.specs.Variables.{typed_local}
-use Rattle.expression_typing.specs.FinalVariables.{Scope}
-use Rattle.statement_typing.specs.Bodies.{Done, Progress, behind, performed, with_local, with_number}
+use Rattle.body_typing.specs.FinalVariables.{Scope}
+use Rattle.body_typing.specs.Bodies.{Done, Progress, behind, performed, with_local, with_number}
 
 abbrev pub declared : Program → Bool → Span → Scope → Progress → LocalVariable → Identifier → Expression → Core → Done
 declared p is_final start s pr v id e n = record {

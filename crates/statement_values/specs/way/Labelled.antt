@@ -3,10 +3,10 @@ use Rattle.std.specs.Prelude.{ℕ, Option}
 use Rattle.je_ast.specs.Parts.{LabelPart, case_part, default_part}
 use Rattle.je_ast.specs.Spans.{span_of}
 use Rattle.je_typing.specs.Judged.{Judged, gives, ◌>>=◌}
-use Rattle.expression_typing.specs.FinalVariables.{Scope}
+use Rattle.body_typing.specs.FinalVariables.{Scope}
 use Rattle.statement_steps.specs.Switches.{WrittenLabel, case, default}
-use Rattle.statement_typing.specs.Bodies.{Progress}
-use Rattle.statement_typing.specs.Switches.{behind_label, label_value}
+use Rattle.body_typing.specs.Bodies.{Progress}
+use Rattle.body_typing.specs.Switches.{behind_label, label_value}
 use Rattle.statement_forms.specs.declared.walk.Walk.{Walk}
 use Rattle.statement_forms.specs.Seen.{known_of, program_of}
 

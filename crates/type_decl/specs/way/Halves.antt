@@ -18,7 +18,7 @@ use Rattle.je_scopes.specs.Source.{Source}
 use Rattle.je_typing.specs.Judged.{Judged, ◌>>=◌, ◌>>◌}
 use Rattle.name_typing.specs.Program.{Program}
 use Rattle.signature_typing.specs.Signatures.{signatures}
-use Rattle.statement_typing.specs.Bodies.{Met}
+use Rattle.body_typing.specs.Bodies.{Met}
 use Rattle.type_decl.specs.declared.ground.Fields.{Fields}
 
 -- what all classes declare, and that with hidden fields

@@ -4,7 +4,7 @@ use Rattle.je_classes.specs.Members.{Member}
 use Rattle.declarations.specs.Declarations.{DeclaredClass, DeclaredField}
 use Rattle.name_typing.specs.Fields.{field_at}
 use Rattle.name_typing.specs.Program.{Constant, Frame, Program}
-use Rattle.expression_typing.specs.Expressions.{expression, initial, value}
+use Rattle.body_typing.specs.Expressions.{expression, initial, value}
 use Rattle.class_typing.specs.ConstantFields.{FieldValue, by, if_final, in_initializer, nothing_known}
 use Rattle.known_classes.specs.Known.{round_seen}
 use Rattle.field_values.specs.Values.{value_at}

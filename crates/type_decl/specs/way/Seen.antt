@@ -20,7 +20,7 @@ use Rattle.je_typing.specs.Judged.{Judged}
 use Rattle.known_classes.specs.Known.{captured_seen}
 use Rattle.met_in_bodies.specs.Seen.{met_seen}
 use Rattle.source_subtypes.specs.View.{heads_of}
-use Rattle.statement_typing.specs.Bodies.{Met}
+use Rattle.body_typing.specs.Bodies.{Met}
 use Rattle.type_decl.specs.declared.told.FirstWalk.{FirstWalk}
 use Rattle.type_decl.specs.declared.walk.AllMet.{AllMet}
 use Rattle.type_decl.specs.declared.walk.BodiesMet.{BodiesMet}

@@ -1,6 +1,6 @@
 -- What tells where a class stands.
 use Rattle.std.specs.Prelude.{Bool, is_some}
-use Rattle.statement_typing.specs.Bodies.{Met}
+use Rattle.body_typing.specs.Bodies.{Met}
 use Rattle.class_typing.specs.Places.{class_standing}
 
 abbrev pub tells : Met → Bool

@@ -8,8 +8,8 @@ use Rattle.je_scopes.specs.Headers.{constants_in, is_interface_sort, members_in,
 use Rattle.je_scopes.specs.Sites.{Written, behind_new, declared, in_library}
 use Rattle.declarations.specs.Declarations.{is_enum_sort}
 use Rattle.je_typing.specs.Judged.{Judged, gives, ◌>>=◌, ◌>>◌}
-use Rattle.expression_typing.specs.FinalVariables.{Scope}
-use Rattle.statement_typing.specs.Bodies.{Met}
+use Rattle.body_typing.specs.FinalVariables.{Scope}
+use Rattle.body_typing.specs.Bodies.{Met}
 use Rattle.class_typing.specs.Constructors.{chosen_for, no_cycle}
 use Rattle.class_typing.specs.Members.{MembersDone, followed_by, nothing}
 use Rattle.member_forms.specs.declared.walk.ClassWalk.{ClassWalk}

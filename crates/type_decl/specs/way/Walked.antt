@@ -7,7 +7,7 @@ use Rattle.class_typing.specs.Classes.{core_class}
 use Rattle.class_typing.specs.Elaboration.{BodiesMet, World, constants_behind, first_world}
 use Rattle.class_typing.specs.Elaboration.{members_of, nothing_captured}
 use Rattle.class_typing.specs.Programs.{CapturedLocal}
-use Rattle.statement_typing.specs.Bodies.{Met}
+use Rattle.body_typing.specs.Bodies.{Met}
 
 -- one class further
 abbrev pub walked : Source → BodiesMet → ℕ → Judged BodiesMet

@@ -11,10 +11,10 @@ use Rattle.je_scopes.specs.Sites.{Written}
 use Rattle.declarations.specs.Declarations.{DeclaredField, DeclaredMethod}
 use Rattle.je_typing.specs.Judged.{Judged, gives, ◌>>=◌}
 use Rattle.je_typing.specs.Typed.{TypedNode}
-use Rattle.expression_typing.specs.Expressions.{expression, initial, value}
+use Rattle.body_typing.specs.Expressions.{expression, initial, value}
 use Rattle.statement_steps.specs.Returns.{Returning, never}
-use Rattle.statement_typing.specs.Bodies.{Met}
-use Rattle.statement_typing.specs.Statements.{statements}
+use Rattle.body_typing.specs.Bodies.{Met}
+use Rattle.body_typing.specs.Statements.{statements}
 use Rattle.class_typing.specs.Members as words
 use Rattle.class_typing.specs.Members.{Begun, BodyDone, MembersDone, nothing_met}
 use Rattle.member_forms.specs.declared.walk.ClassWalk.{ClassWalk}

@@ -4,7 +4,7 @@ use Rattle.je_ast.specs.declared.name.Identifier.{Identifier}
 use Rattle.je_ast.specs.Trees.{Expression, Expressions, call_on}
 use Rattle.je_typing.specs.Judged.{Judged}
 use Rattle.je_typing.specs.Typed.{TypedNode}
-use Rattle.expression_typing.specs.Expressions.{read}
+use Rattle.body_typing.specs.Expressions.{read}
 use Rattle.body_scopes.specs.declared.scope.Scope.{Scope}
 use Rattle.body_walks.specs.declared.bodies.Bodies.{Bodies}
 use Rattle.type_expr.specs.Walk.{expression_in}

@@ -5,7 +5,7 @@ use Rattle.je_ast.specs.Trees.{Expressions}
 use Rattle.je_ast.specs.Trees as tree
 use Rattle.je_typing.specs.Arrays.{Part}
 use Rattle.je_typing.specs.Judged.{Judged, gives, ◌>>=◌}
-use Rattle.expression_typing.specs.Expressions.{Purpose, part}
+use Rattle.body_typing.specs.Expressions.{Purpose, part}
 use Rattle.body_scopes.specs.declared.scope.Scope.{Scope}
 use Rattle.body_walks.specs.declared.bodies.Bodies.{Bodies}
 use Rattle.type_expr.specs.Walk.{value_in}

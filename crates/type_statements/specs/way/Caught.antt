@@ -4,10 +4,10 @@ use Rattle.je_ast.specs.Parts.{CatchPart}
 use Rattle.je_fitting.specs.Statements.{Targets}
 use Rattle.je_typing.specs.Judged.{Judged, gives, ◌>>=◌}
 use Rattle.body_types.specs.BodyTypes.{bare_type}
-use Rattle.expression_typing.specs.FinalVariables.{Scope}
-use Rattle.statement_typing.specs.Bodies.{Progress, local_of, next_number, with_local, with_number}
-use Rattle.statement_typing.specs.Catches.{Clause, caught_name}
-use Rattle.statement_typing.specs.Statements.{clause}
+use Rattle.body_typing.specs.FinalVariables.{Scope}
+use Rattle.body_typing.specs.Bodies.{Progress, local_of, next_number, with_local, with_number}
+use Rattle.body_typing.specs.Catches.{Clause, caught_name}
+use Rattle.body_typing.specs.Statements.{clause}
 use Rattle.statement_forms.specs.declared.walk.Walk.{Walk}
 use Rattle.statement_forms.specs.Seen.{known_of, program_of, returning_of}
 use Rattle.type_statements.specs.Walk.{statements_by}

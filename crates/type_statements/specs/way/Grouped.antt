@@ -3,9 +3,9 @@ use Rattle.std.specs.Prelude.{ℕ, List, Option}
 use Rattle.je_ast.specs.Parts.{GroupPart}
 use Rattle.je_fitting.specs.Statements.{Targets}
 use Rattle.je_typing.specs.Judged.{Judged, gives, ◌>>=◌}
-use Rattle.expression_typing.specs.FinalVariables.{Scope}
-use Rattle.statement_typing.specs.Bodies.{Done, Progress, with_classes_of}
-use Rattle.statement_typing.specs.Switches.{LabelsMet, WrittenGroup, labels}
+use Rattle.body_typing.specs.FinalVariables.{Scope}
+use Rattle.body_typing.specs.Bodies.{Done, Progress, with_classes_of}
+use Rattle.body_typing.specs.Switches.{LabelsMet, WrittenGroup, labels}
 use Rattle.statement_parts.specs.View.{group_seen}
 use Rattle.statement_forms.specs.declared.switches.WalkedGroup.{WalkedGroup}
 use Rattle.statement_forms.specs.declared.walk.Walk.{Walk}

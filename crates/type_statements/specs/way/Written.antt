@@ -8,9 +8,9 @@ use Rattle.je_ast.specs.Trees as tree
 use Rattle.je_ast.specs.Types.{TypeName}
 use Rattle.je_fitting.specs.Statements.{Targets}
 use Rattle.je_typing.specs.Judged.{Judged}
-use Rattle.expression_typing.specs.FinalVariables.{Scope}
-use Rattle.statement_typing.specs.Bodies.{Done, Progress}
-use Rattle.statement_typing.specs.Statements.{statement}
+use Rattle.body_typing.specs.FinalVariables.{Scope}
+use Rattle.body_typing.specs.Bodies.{Done, Progress}
+use Rattle.body_typing.specs.Statements.{statement}
 use Rattle.statement_forms.specs.declared.walk.Walk.{Walk}
 use Rattle.statement_forms.specs.Seen.{known_of, program_of, returning_of}
 

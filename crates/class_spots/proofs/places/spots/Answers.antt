@@ -2,9 +2,9 @@ use Rattle.std.proofs.Common.{◌<◌, ◌≤◌, length, ap, ◌∙◌, Option,
 use Rattle.je_base.specs.declared.span.Span.{Span}
 use Rattle.je_scopes.specs.Headers.{site_at}
 use Rattle.je_scopes.specs.Sites.{Site}
-use Rattle.expression_typing.specs.Expressions.{is_behind}
+use Rattle.body_typing.specs.Expressions.{is_behind}
 use Rattle.name_sites.specs.View.{source_of}
-use Rattle.statement_typing.specs.LocalClasses.{is_declared_at}
+use Rattle.body_typing.specs.LocalClasses.{is_declared_at}
 use Rattle.class_spots.specs.Starts.{at_start, kept, name_in, word_in}
 use Rattle.class_spots.proofs.Firsts.{first_of_all, first_on, name_there, word_there}
 use Rattle.class_spots.proofs.places.spots.Goals as goal

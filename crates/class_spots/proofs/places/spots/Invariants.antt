@@ -3,9 +3,9 @@ use Rattle.std.specs.List.{position}
 use Rattle.je_base.specs.declared.span.Span.{Span}
 use Rattle.je_ast.specs.declared.name.Identifier.{Identifier}
 use Rattle.je_scopes.specs.Sites.{Site}
-use Rattle.expression_typing.specs.Expressions.{is_behind}
+use Rattle.body_typing.specs.Expressions.{is_behind}
 use Rattle.name_sites.specs.View.{source_of}
-use Rattle.statement_typing.specs.LocalClasses.{is_declared_at}
+use Rattle.body_typing.specs.LocalClasses.{is_declared_at}
 use Rattle.class_spots.specs.Starts.{kept}
 use Rattle.class_spots.proofs.places.spots.Given as goal
 

@@ -5,7 +5,7 @@ use Rattle.je_typing.specs.Judged.{Judged, gives}
 use Rattle.je_typing.specs.Typed.{TypedNode}
 use Rattle.name_typing.specs.Program.{Place}
 use Rattle.name_typing.specs.Qualified.{select_before}
-use Rattle.expression_typing.specs.Expressions.{named_before}
+use Rattle.body_typing.specs.Expressions.{named_before}
 use Rattle.body_scopes.specs.View.{scope_seen}
 use Rattle.qualified_steps.specs.declared.qualifier.Qualifier.{Qualifier}
 use Rattle.qualified_steps.specs.Qualifiers.{qualifier_seen}

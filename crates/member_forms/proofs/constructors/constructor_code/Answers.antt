@@ -3,7 +3,7 @@ use Rattle.std.specs.Prelude.{Some, codes, option_map}
 use Rattle.je_ast.specs.View.{constructor_invocation_view}
 use Rattle.je_core.specs.View.{method_view, stmt_view}
 use Rattle.declarations.specs.View.{method_shown}
-use Rattle.statement_typing.specs.Bodies.{Done, block_of}
+use Rattle.body_typing.specs.Bodies.{Done, block_of}
 use Rattle.class_typing.specs.Captures.{listed}
 use Rattle.class_typing.specs.Members.{nothing}
 use Rattle.met_in_bodies.specs.Seen.{met_seen}

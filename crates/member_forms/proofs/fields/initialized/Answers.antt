@@ -5,7 +5,7 @@ use Rattle.je_core.specs.View.{view}
 use Rattle.je_typing.specs.Conversions.{assigned}
 use Rattle.je_typing.specs.Judged.{gives}
 use Rattle.declarations.specs.View.{field_shown}
-use Rattle.expression_typing.specs.ConstantVariables.{variable_constant}
+use Rattle.body_typing.specs.ConstantVariables.{variable_constant}
 use Rattle.name_types.specs.View.{shown}
 use Rattle.typed_nodes.specs.Seen.{seen}
 use Rattle.member_forms.specs.Seen.{program_of}

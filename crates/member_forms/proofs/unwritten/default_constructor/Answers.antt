@@ -4,7 +4,7 @@ use Rattle.je_typing.specs.Judged.{gives}
 use Rattle.je_typing.specs.Typed.{TypedNode}
 use Rattle.je_typing.proofs.Walks.{bind_gives}
 use Rattle.call_typing.specs.Creations.{implicit_constructor_call}
-use Rattle.expression_typing.specs.FinalVariables.{Scope}
+use Rattle.body_typing.specs.FinalVariables.{Scope}
 use Rattle.body_places.specs.Places.{place_seen}
 use Rattle.member_forms.specs.Seen.{program_of}
 use Rattle.member_forms.specs.Walks.{class_span, default_code, scope_in}

@@ -1,8 +1,8 @@
 use Rattle.std.proofs.Common.{◌≡◌, ◌++◌, drop, map}
 use Rattle.std.specs.Prelude.{flat_map}
 use Rattle.je_ast.specs.View.{views_of}
-use Rattle.expression_typing.specs.Mentions.{all_mentions}
-use Rattle.statement_typing.specs.Bodies.{met_by}
+use Rattle.body_typing.specs.Mentions.{all_mentions}
+use Rattle.body_typing.specs.Bodies.{met_by}
 use Rattle.body_places.specs.View.{program_seen}
 use Rattle.body_scopes.specs.View.{scope_seen}
 use Rattle.met_in_bodies.specs.Seen.{met_seen}

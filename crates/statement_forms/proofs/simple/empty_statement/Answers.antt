@@ -1,7 +1,7 @@
 use Rattle.std.proofs.Common.{sym, ap, ◌∙◌}
 use Rattle.je_core.specs.Core.{CoreStmt}
 use Rattle.je_typing.specs.Judged.{gives}
-use Rattle.statement_typing.specs.Bodies.{one}
+use Rattle.body_typing.specs.Bodies.{one}
 use Rattle.statement_forms.proofs.simple.empty_statement.Goals as goal
 
 pub returns-clause-ok : goal.returns-clause-ok

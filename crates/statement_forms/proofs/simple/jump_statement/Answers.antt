@@ -1,7 +1,7 @@
 use Rattle.std.proofs.Common.{sym, ap, ◌∙◌}
 use Rattle.je_typing.specs.Judged.{gives}
 use Rattle.je_typing.proofs.Walks.{bind_gives}
-use Rattle.statement_typing.specs.Bodies.{one}
+use Rattle.body_typing.specs.Bodies.{one}
 use Rattle.statement_forms.proofs.Jumping.{jump_is}
 use Rattle.statement_forms.proofs.simple.jump_statement.Goals as goal
 

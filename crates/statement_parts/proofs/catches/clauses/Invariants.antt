@@ -2,7 +2,7 @@ use Rattle.std.proofs.Common.{◌≡◌, length, map}
 use Rattle.std.specs.Vec.Iter.{into_iter_items, into_iter_len}
 use Rattle.je_core.specs.View.{catch_view}
 use Rattle.source_subtypes.specs.View.{heads_of}
-use Rattle.statement_typing.specs.Catches.{clauses}
+use Rattle.body_typing.specs.Catches.{clauses}
 use Rattle.body_scopes.specs.View.{scope_seen}
 use Rattle.statement_parts.specs.View.{clause_seen}
 use Rattle.statement_parts.proofs.Caught.{left_behind}

@@ -7,7 +7,7 @@ use Rattle.je_core.specs.View.{group_view, label_view}
 use Rattle.name_types.specs.View.{shown}
 use Rattle.source_subtypes.specs.View.{heads_of}
 use Rattle.statement_steps.specs.Switches.{none_met}
-use Rattle.statement_typing.specs.Switches.{groups_from}
+use Rattle.body_typing.specs.Switches.{groups_from}
 use Rattle.value_statements.specs.declared.labels.WrittenLabel.{WrittenLabel}
 use Rattle.value_statements.specs.Labels.{GivesLabels, label_seen}
 use Rattle.statement_parts.specs.declared.switching.WrittenGroup.{WrittenGroup}

@@ -1,7 +1,7 @@
 use Rattle.std.proofs.Common.{List, ap}
 use Rattle.je_ast.specs.View.{view}
 use Rattle.je_core.specs.View.{stmt_view, view as node_seen}
-use Rattle.statement_typing.specs.Bodies.{Met}
+use Rattle.body_typing.specs.Bodies.{Met}
 use Rattle.body_places.specs.Places.{local_seen}
 use Rattle.body_scopes.specs.View.{scope_seen}
 use Rattle.statement_forms.specs.Seen.{program_of, progress_seen}

@@ -1,7 +1,7 @@
 use Rattle.je_ast.specs.Types.{type_view}
 use Rattle.je_ast.specs.View.{variable_views_of}
 use Rattle.name_types.specs.View.{shown}
-use Rattle.statement_typing.specs.LocalVariables.{variables}
+use Rattle.body_typing.specs.LocalVariables.{variables}
 use Rattle.body_scopes.specs.Extending.{Extends}
 use Rattle.body_scopes.specs.View.{scope_seen}
 use Rattle.statement_forms.specs.Seen.{done_seen, known_of, program_of, progress_seen}

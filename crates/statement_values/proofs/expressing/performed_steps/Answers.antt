@@ -3,7 +3,7 @@ use Rattle.je_base.specs.declared.span.Span.{Span}
 use Rattle.je_core.specs.View.{view as node_seen}
 use Rattle.typed_nodes.specs.Seen.{seen}
 use Rattle.body_scopes.specs.View.{scope_seen}
-use Rattle.statement_typing.specs.Bodies.{Done, followed, one, performed}
+use Rattle.body_typing.specs.Bodies.{Done, followed, one, performed}
 use Rattle.statement_forms.specs.Seen.{done_in, progress_seen}
 use Rattle.statement_values.proofs.StepLists.{performed_on}
 use Rattle.statement_values.proofs.expressing.performed_steps.Goals as goal

@@ -1,5 +1,5 @@
 use Rattle.je_ast.specs.View.{views_of}
-use Rattle.statement_typing.specs.Statements.{steps}
+use Rattle.body_typing.specs.Statements.{steps}
 use Rattle.body_scopes.specs.View.{scope_seen}
 use Rattle.statement_forms.specs.Seen.{known_of, program_of, progress_seen, returning_of}
 use Rattle.statement_values.proofs.StepLists.{steps_left}

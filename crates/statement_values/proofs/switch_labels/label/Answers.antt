@@ -8,7 +8,7 @@ use Rattle.je_ast.specs.View.{view}
 use Rattle.je_typing.specs.Judged.{gives}
 use Rattle.je_typing.proofs.Walks.{bind_faults, bind_gives}
 use Rattle.statement_steps.specs.Switches.{case}
-use Rattle.statement_typing.specs.Switches.{label_value}
+use Rattle.body_typing.specs.Switches.{label_value}
 use Rattle.typed_nodes.specs.Seen.{seen}
 use Rattle.body_scopes.specs.View.{scope_seen}
 use Rattle.statement_forms.specs.Seen.{known_of, program_of}

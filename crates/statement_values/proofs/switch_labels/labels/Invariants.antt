@@ -1,7 +1,7 @@
 use Rattle.std.specs.Prelude.{option_map}
 use Rattle.je_ast.specs.View.{label_views_of}
 use Rattle.je_core.specs.declared.types.ClassId.{ClassId}
-use Rattle.statement_typing.specs.Switches.{labels}
+use Rattle.body_typing.specs.Switches.{labels}
 use Rattle.body_scopes.specs.View.{scope_seen}
 use Rattle.statement_forms.specs.Seen.{known_of, program_of, progress_seen}
 use Rattle.statement_values.proofs.LabelLists.{labels_left}

@@ -6,7 +6,7 @@ use Rattle.je_fitting.specs.Statements.{no_targets}
 use Rattle.je_typing.specs.Judged.{gives}
 use Rattle.je_typing.proofs.Walks.{bind_gives}
 use Rattle.statement_steps.specs.View.{returning_seen}
-use Rattle.statement_typing.specs.Statements.{statements}
+use Rattle.body_typing.specs.Statements.{statements}
 use Rattle.body_scopes.specs.View.{scope_seen}
 use Rattle.statement_forms.specs.Seen.{done_seen, progress_seen}
 use Rattle.member_forms.specs.Seen.{known_of, program_of}

@@ -9,8 +9,8 @@ use Rattle.je_typing.proofs.Walks.{bind_faults, bind_gives, fault_later}
 use Rattle.name_types.specs.View.{shown}
 use Rattle.typed_nodes.specs.Seen.{seen}
 use Rattle.statement_steps.specs.Returns.{no_value}
-use Rattle.statement_typing.specs.Bodies.{Done}
-use Rattle.statement_typing.specs.Statements.{statements}
+use Rattle.body_typing.specs.Bodies.{Done}
+use Rattle.body_typing.specs.Statements.{statements}
 use Rattle.class_typing.specs.Captures.{listed}
 use Rattle.body_scopes.specs.View.{scope_seen}
 use Rattle.statement_forms.specs.Seen.{done_seen, progress_seen}

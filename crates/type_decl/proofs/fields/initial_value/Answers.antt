@@ -4,8 +4,8 @@ use Rattle.je_typing.specs.Answers.{IsFault}
 use Rattle.je_typing.specs.Judged.{gives}
 use Rattle.name_types.specs.View.{shown}
 use Rattle.typed_nodes.specs.Seen.{seen}
-use Rattle.expression_typing.specs.Expressions.{expression, initial, value}
-use Rattle.expression_typing.specs.FinalVariables.{Scope}
+use Rattle.body_typing.specs.Expressions.{expression, initial, value}
+use Rattle.body_typing.specs.FinalVariables.{Scope}
 use Rattle.member_forms.specs.Seen.{known_of, program_of}
 use Rattle.type_decl.proofs.fields.initial_value.Goals as goal
 

@@ -7,8 +7,8 @@ use Rattle.je_typing.specs.Judged.{Judged}
 use Rattle.je_typing.proofs.Walks.{bind_faults, bind_gives, fault_later}
 use Rattle.typed_nodes.specs.Seen.{seen}
 use Rattle.call_typing.specs.Overloads.{Candidate}
-use Rattle.expression_typing.specs.Expressions.{values}
-use Rattle.expression_typing.specs.FinalVariables.{Scope}
+use Rattle.body_typing.specs.Expressions.{values}
+use Rattle.body_typing.specs.FinalVariables.{Scope}
 use Rattle.member_forms.specs.Seen.{known_of, program_of}
 use Rattle.member_forms.specs.Walks.{chosen_by}
 use Rattle.type_decl.proofs.unwritten.chosen_at.Goals as goal

@@ -13,7 +13,7 @@ use Rattle.name_types.specs.View.{shown}
 use Rattle.array_making.specs.Parts.{part_seen}
 use Rattle.typed_nodes.specs.Seen.{seen}
 use Rattle.call_typing.specs.Calls.{receiver}
-use Rattle.expression_typing.specs.Expressions.{named_before, read}
+use Rattle.body_typing.specs.Expressions.{named_before, read}
 use Rattle.expression_forms.proofs.Before.{value_faults, value_stands}
 use Rattle.expression_forms.specs.Seen.{purpose_seen}
 use Rattle.body_scopes.specs.View.{scope_seen}

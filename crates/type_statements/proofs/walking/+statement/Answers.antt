@@ -15,7 +15,7 @@ use Rattle.je_typing.specs.Answers.{wants_memory}
 use Rattle.je_typing.proofs.Walks.{bind_faults}
 use Rattle.name_types.specs.View.{shown}
 use Rattle.fit_statements.specs.Labels.{label_seen as label_shown}
-use Rattle.statement_typing.specs.Bodies.{local_of}
+use Rattle.body_typing.specs.Bodies.{local_of}
 use Rattle.value_statements.specs.Labels.{label_seen}
 use Rattle.typed_nodes.specs.Seen.{seen}
 use Rattle.body_places.specs.Places.{local_seen}

@@ -8,7 +8,7 @@ use Rattle.je_ast.proofs.stmt.Catch.TheLaws as in_catch
 use Rattle.je_ast.proofs.stmt.Group.TheLaws as in_group
 use Rattle.je_ast.proofs.stmt.Stmt.TheLaws.{the_size}
 use Rattle.je_core.specs.declared.types.ClassId.{ClassId}
-use Rattle.statement_typing.specs.Statements.{catches, groups}
+use Rattle.body_typing.specs.Statements.{catches, groups}
 use Rattle.body_scopes.specs.Extending.{Extends}
 use Rattle.body_scopes.specs.View.{scope_seen}
 use Rattle.statement_forms.specs.Seen.{done_seen, groups_in, known_of, program_of, progress_seen, returning_of}

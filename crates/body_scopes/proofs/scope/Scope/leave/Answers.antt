@@ -1,7 +1,7 @@
 use Rattle.std.proofs.Common.{ap, ◌∙◌}
 use Rattle.name_sites.specs.Number.{number_of}
 use Rattle.name_lookup.specs.View.{numbers}
-use Rattle.expression_typing.specs.FinalVariables.{Scope}
+use Rattle.body_typing.specs.FinalVariables.{Scope}
 use Rattle.body_scopes.specs.View.{scope_seen}
 use Rattle.body_scopes.proofs.Leaving.{classes_left, mapped_end_is_left}
 use Rattle.body_scopes.proofs.scope.Scope.leave.Goals as goal

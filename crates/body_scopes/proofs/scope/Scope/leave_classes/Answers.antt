@@ -1,6 +1,6 @@
 use Rattle.std.proofs.Common.{List, ℕ, ap}
 use Rattle.name_sites.specs.Number.{number_of}
-use Rattle.statement_typing.specs.Bodies.{in_frame}
+use Rattle.body_typing.specs.Bodies.{in_frame}
 use Rattle.body_scopes.specs.View.{scope_seen}
 use Rattle.body_scopes.proofs.Leaving.{mapped_end_is_left}
 use Rattle.body_scopes.proofs.scope.Scope.leave_classes.Goals as goal

@@ -1,6 +1,6 @@
 use Rattle.std.proofs.Common.{List, map, take, subst, sym, arith}
 use Rattle.std.proofs.lemmas.Grind.{common_steps}
-use Rattle.statement_typing.specs.Bodies.{Met}
+use Rattle.body_typing.specs.Bodies.{Met}
 use Rattle.met_in_bodies.specs.Seen.{met_seen}
 use Rattle.capturing.proofs.Ends.{map-take-more}
 use Rattle.class_places.specs.First.{AreFirst}

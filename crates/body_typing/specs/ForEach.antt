@@ -12,7 +12,7 @@ use Rattle.source_types.specs.Erasure.{erased}
 use Rattle.source_types.specs.Heads.{ClassHead}
 use Rattle.je_typing.specs.Arrays.{element_node}
 use Rattle.je_typing.specs.Typed.{TypedNode}
-use Rattle.statement_typing.specs.Bodies.{performed}
+use Rattle.body_typing.specs.Bodies.{performed}
 
 -- the node of the array, whose span all that isn't written has, and the number of its local; those of the index and
 -- of the variable come next

@@ -25,9 +25,9 @@ use Rattle.name_typing.specs.Fields.{find_field}
 use Rattle.name_typing.specs.Program.{Place}
 use Rattle.name_typing.specs.Variables.{assigned_name, not_forward, simple_name, taken, updated_name, variable_named, variable_node}
 use Rattle.call_typing.specs.Calls.{used}
-use Rattle.expression_typing.specs.Expressions.{Known, expression, read}
-use Rattle.expression_typing.specs.FinalVariables.{Scope, not_final}
-use Rattle.expression_typing.specs.Mentions.{mentions, named}
+use Rattle.body_typing.specs.Expressions.{Known, expression, read}
+use Rattle.body_typing.specs.FinalVariables.{Scope, not_final}
+use Rattle.body_typing.specs.Mentions.{mentions, named}
 use Rattle.name_typing.proofs.Rows.Parts.{at, whole, id, in_body, in_initializer, in_local_class, this_of, int, int_node, ty, heads, classes, source, program}
 
 -- every final field counts as blank, or none

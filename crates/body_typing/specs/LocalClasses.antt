@@ -9,9 +9,9 @@ use Rattle.je_scopes.specs.Sites.{Site, Written, declared}
 use Rattle.je_typing.specs.declared.fault.TypeRule.TheVariants.{LocalTwice}
 use Rattle.je_typing.specs.Judged.{Judged, gives, ◌>>◌, check}
 use Rattle.name_typing.specs.Program.{Program}
-use Rattle.expression_typing.specs.Expressions.{same_start}
-use Rattle.expression_typing.specs.FinalVariables.{Scope}
-use Rattle.statement_typing.specs.Bodies.{Done, Progress, stands, with_local_class, with_met}
+use Rattle.body_typing.specs.Expressions.{same_start}
+use Rattle.body_typing.specs.FinalVariables.{Scope}
+use Rattle.body_typing.specs.Bodies.{Done, Progress, stands, with_local_class, with_met}
 
 -- the class whose declaration has its name there
 abbrev pub is_declared_at : Identifier → Written → Bool

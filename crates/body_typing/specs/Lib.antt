@@ -1,3 +1,7 @@
+pub mod FinalVariables
+pub mod ConstantVariables
+pub mod Expressions
+pub mod Mentions
 pub mod Bodies
 pub mod LocalVariables
 pub mod LocalClasses

@@ -18,10 +18,10 @@ use Rattle.je_typing.specs.Judged.{Judged, gives, ◌>>=◌, ◌>>◌, check}
 use Rattle.je_typing.specs.Typed.{TypedNode}
 use Rattle.name_typing.specs.Program.{LocalVariable, Program}
 use Rattle.name_typing.specs.Variables.{typed_local}
-use Rattle.expression_typing.specs.ConstantVariables.{variable_constant}
-use Rattle.expression_typing.specs.Expressions.{Known, expression, initial, value}
-use Rattle.expression_typing.specs.FinalVariables.{Scope}
-use Rattle.statement_typing.specs.Bodies.{Done, Progress, behind, followed, has_local, local_of, next_number, nothing_done, performed, with_local, with_number}
+use Rattle.body_typing.specs.ConstantVariables.{variable_constant}
+use Rattle.body_typing.specs.Expressions.{Known, expression, initial, value}
+use Rattle.body_typing.specs.FinalVariables.{Scope}
+use Rattle.body_typing.specs.Bodies.{Done, Progress, behind, followed, has_local, local_of, next_number, nothing_done, performed, with_local, with_number}
 
 -- no other local of the name is in scope in its body (JLS 14.4.2)
 abbrev pub new_name : Scope → Identifier → Judged (Unit {0})

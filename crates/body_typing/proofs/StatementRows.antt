@@ -26,12 +26,12 @@ use Rattle.statement_steps.specs.Conditions.{condition, if_statement, loop_state
 use Rattle.statement_steps.specs.Jumps.{jump, labelled}
 use Rattle.statement_steps.specs.Returns.{no_value, returned_value}
 use Rattle.statement_steps.specs.Switches.{next_label, selector}
-use Rattle.expression_typing.specs.ConstantVariables.{variable_constant}
-use Rattle.expression_typing.specs.Expressions.{Known}
-use Rattle.expression_typing.specs.FinalVariables.{Scope}
-use Rattle.statement_typing.specs.Bodies.{Done}
-use Rattle.statement_typing.specs.Statements.{statements}
-use Rattle.statement_typing.specs.Switches.{constant_place}
+use Rattle.body_typing.specs.ConstantVariables.{variable_constant}
+use Rattle.body_typing.specs.Expressions.{Known}
+use Rattle.body_typing.specs.FinalVariables.{Scope}
+use Rattle.body_typing.specs.Bodies.{Done}
+use Rattle.body_typing.specs.Statements.{statements}
+use Rattle.body_typing.specs.Switches.{constant_place}
 use Rattle.name_typing.proofs.Rows.Parts.{at, whole, id, in_body, int_node, ty, heads, classes, source, program}
 
 abbrev known : Known

@@ -43,7 +43,7 @@ use Rattle.name_typing.specs.Variables.{assigned_name, simple_name, taken, updat
 use Rattle.body_types.specs.BodyTypes.{bare_type, body_type, look_at}
 use Rattle.call_typing.specs.Calls.{call_on, receiver, simple_call, super_call, used}
 use Rattle.call_typing.specs.Creations.{anonymous_creation, creation}
-use Rattle.expression_typing.specs.FinalVariables.{Scope, not_final}
+use Rattle.body_typing.specs.FinalVariables.{Scope, not_final}
 
 -- what an expression is for: its value is read, it is assigned, it is read and assigned, or it is the initializer of
 -- a variable of a type

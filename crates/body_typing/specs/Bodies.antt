@@ -17,9 +17,9 @@ use Rattle.library_classes.specs.Numbers.{number_in}
 use Rattle.name_typing.specs.Program.{Constant, Frame, LocalVariable, Program, frames}
 use Rattle.name_typing.specs.Variables.{Variable, a_local, class_of_frame, variable_named}
 use Rattle.body_types.specs.BodyTypes.{look_at}
-use Rattle.expression_typing.specs.Expressions.{anonymous_at, class_of_look}
-use Rattle.expression_typing.specs.FinalVariables.{Scope}
-use Rattle.expression_typing.specs.Mentions.{Mention, made, made_with_body, mentions, named}
+use Rattle.body_typing.specs.Expressions.{anonymous_at, class_of_look}
+use Rattle.body_typing.specs.FinalVariables.{Scope}
+use Rattle.body_typing.specs.Mentions.{Mention, made, made_with_body, mentions, named}
 
 -- ---- what is met in a body: that by which it is told what classes capture (JLS 8.1.3), and where classes stand
 

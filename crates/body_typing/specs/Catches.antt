@@ -8,8 +8,8 @@ use Rattle.je_scopes.specs.SourceTypes.{SourceType}
 use Rattle.source_types.specs.Heads.{ClassHead}
 use Rattle.je_typing.specs.Judged.{Judged, gives, ◌>>=◌, ◌>>◌}
 use Rattle.statement_steps.specs.Thrown.{caught_class}
-use Rattle.expression_typing.specs.FinalVariables.{Scope}
-use Rattle.statement_typing.specs.LocalVariables.{new_name}
+use Rattle.body_typing.specs.FinalVariables.{Scope}
+use Rattle.body_typing.specs.LocalVariables.{new_name}
 
 -- the name of the class as a type
 abbrev pub caught_name : QualifiedName → TypeName

@@ -25,14 +25,14 @@ use Rattle.statement_steps.specs.Jumps.{jump, labelled}
 use Rattle.statement_steps.specs.Returns.{Returning, returned, returned_value}
 use Rattle.statement_steps.specs.Switches.{none_met, selector}
 use Rattle.statement_steps.specs.Thrown.{thrown}
-use Rattle.expression_typing.specs.Expressions.{Known, expression, read, value}
-use Rattle.expression_typing.specs.FinalVariables.{Scope}
-use Rattle.statement_typing.specs.Bodies.{Done, Progress, alone, behind, block_of, followed, local_of, next_number, no_name, nothing_done, one, performed, with_classes_of, with_local, with_number}
-use Rattle.statement_typing.specs.Catches.{Clause, caught_name, clauses}
-use Rattle.statement_typing.specs.ForEach as each
-use Rattle.statement_typing.specs.LocalClasses.{local_class}
-use Rattle.statement_typing.specs.LocalVariables.{new_name, variables}
-use Rattle.statement_typing.specs.Switches.{LabelsMet, WrittenGroup, enum_of, groups_from, labels, selected_by}
+use Rattle.body_typing.specs.Expressions.{Known, expression, read, value}
+use Rattle.body_typing.specs.FinalVariables.{Scope}
+use Rattle.body_typing.specs.Bodies.{Done, Progress, alone, behind, block_of, followed, local_of, next_number, no_name, nothing_done, one, performed, with_classes_of, with_local, with_number}
+use Rattle.body_typing.specs.Catches.{Clause, caught_name, clauses}
+use Rattle.body_typing.specs.ForEach as each
+use Rattle.body_typing.specs.LocalClasses.{local_class}
+use Rattle.body_typing.specs.LocalVariables.{new_name, variables}
+use Rattle.body_typing.specs.Switches.{LabelsMet, WrittenGroup, enum_of, groups_from, labels, selected_by}
 
 -- ---- labels (JLS 14.7): a `for` is a block with a loop in it, and its label stands at the loop
 

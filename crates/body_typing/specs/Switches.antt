@@ -21,9 +21,9 @@ use Rattle.je_typing.specs.Typed.{TypedNode, typed_as}
 use Rattle.name_typing.specs.Program.{Program}
 use Rattle.call_typing.specs.Creations.{is_enum_in}
 use Rattle.statement_steps.specs.Switches.{LabelsDone, Met, WrittenLabel, case, default, labels_from}
-use Rattle.expression_typing.specs.Expressions.{Known, expression, read, value as used_value}
-use Rattle.expression_typing.specs.FinalVariables.{Scope}
-use Rattle.statement_typing.specs.Bodies.{Progress, behind}
+use Rattle.body_typing.specs.Expressions.{Known, expression, read, value as used_value}
+use Rattle.body_typing.specs.FinalVariables.{Scope}
+use Rattle.body_typing.specs.Bodies.{Progress, behind}
 
 -- ---- the selector
 

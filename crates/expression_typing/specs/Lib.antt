@@ -1,4 +1,0 @@
-pub mod FinalVariables
-pub mod ConstantVariables
-pub mod Expressions
-pub mod Mentions
