@@ -24,7 +24,6 @@ use body_places::LocalVariable;
 use body_scopes::Scope;
 use body_type_steps::body_type;
 use conversion_steps::assigned;
-use expression_forms::Purpose;
 use je_ast::{Expr, Identifier, TyName, Var};
 use je_base::{Memory, Span};
 use je_core::Expr as Node;
@@ -38,7 +37,7 @@ use statement_forms::{
 use statement_parts::{assigned_to, new_name, variable_constant};
 use std::alloc::Global;
 use tree_spans::span;
-use type_expr::value;
+use type_expr::{Purpose, value};
 use typed_nodes::TypedExpr;
 use written_types::judge_declared;
 

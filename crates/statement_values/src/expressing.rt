@@ -16,7 +16,6 @@ ghost use Rattle.body_walks.specs.Seen.{HasAllMethods};
 ghost use Rattle.statement_forms.specs.Seen.{done_in, known_of, program_of, progress_seen, returning_of};
 
 use body_scopes::Scope;
-use expression_forms::Purpose;
 use je_ast::Expr;
 use je_base::{Memory, Span};
 use je_core::{Base, Expr as Node};
@@ -26,7 +25,7 @@ use statement_forms::{Done, Progress, Walk, alloc, follow, nothing, one, perform
 use statement_steps::no_condition;
 use std::rc::Rc;
 use tree_spans::span;
-use type_expr::{elab_expr, value};
+use type_expr::{Purpose, elab_expr, value};
 use typed_nodes::{TypedExpr, of_base};
 
 // What an expression mentions.

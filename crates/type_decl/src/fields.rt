@@ -11,14 +11,13 @@ ghost use Rattle.member_forms.specs.Seen.{members_seen};
 ghost use Rattle.type_decl.specs.way.Walks.{initial_value as the_initial_value, initialized as the_initialized, variable as the_variable, variables as the_variables};
 
 use declarations::FieldDecl;
-use expression_forms::Purpose;
 use field_lookup::field_at;
 use je_ast::{Expr, Identifier, Var};
 use je_typing::Refusal;
 use member_forms::{
     ClassWalk, MembersDone, alloc, field_scope, follow, initialized, next, nothing, uninitialized,
 };
-use type_expr::value;
+use type_expr::{Purpose, value};
 use typed_nodes::TypedExpr;
 
 // The value of an initializer.

@@ -18,7 +18,6 @@ use body_scopes::Scope;
 use body_walks::Bodies;
 use call_steps::Calls;
 use declarations::FieldDecl;
-use expression_forms::Purpose;
 use field_lookup::field_at;
 use field_values::FieldValue;
 use je_ast::Expr;
@@ -29,7 +28,7 @@ use known_classes::Known;
 use name_walk::Context;
 use statement_parts::variable_constant;
 use std::alloc::Global;
-use type_expr::value;
+use type_expr::{Purpose, value};
 
 /// The fields of all classes, by class.
 #[derive(Clone, Copy)]

@@ -18,9 +18,9 @@ use Rattle.je_typing.specs.Typed.{TypedNode, element_type}
 use Rattle.je_typing.proofs.Walks.{bind_faults, bind_gives, fault_later}
 use Rattle.body_types.specs.BodyTypes.{bare_type}
 use Rattle.body_typing.specs.Expressions.{Purpose, array_over, assign_step, assigned_by, innermost, name_span, read, target_purpose}
-use Rattle.expression_forms.specs.Seen.{purpose_seen}
-use Rattle.expression_forms.specs.declared.purpose.Purpose.{Purpose as Purposed}
-use Rattle.expression_forms.specs.declared.purpose.Purpose.TheVariants.{Read, Assigned, Updated}
+use Rattle.type_expr.specs.Seen.{purpose_seen}
+use Rattle.type_expr.specs.declared.purpose.Purpose.{Purpose as Purposed}
+use Rattle.type_expr.specs.declared.purpose.Purpose.TheVariants.{Read, Assigned, Updated}
 use Rattle.typed_nodes.specs.declared.typed.TypedExpr.{TypedExpr}
 use Rattle.typed_nodes.specs.Seen.{seen}
 use Rattle.body_scopes.specs.View.{scope_seen}

@@ -14,12 +14,18 @@ ghost use Rattle.body_scopes.specs.View.{scope_seen};
 ghost use Rattle.body_walks.specs.Seen.{HasAllMethods, known_in, program_in};
 ghost use Rattle.qualified_steps.specs.Qualifiers.{qualifier_seen};
 ghost use Rattle.typed_nodes.specs.Seen.{seen};
-ghost use Rattle.expression_forms.specs.Seen.{purpose_seen};
+ghost use Rattle.type_expr.specs.Seen.{purpose_seen};
 ghost use Rattle.type_expr.specs.Walk.{before_in, expression_in, prefixed_in, value_in};
 ghost use Rattle.type_expr.specs.Walk.{elements_behind, elements_for_in, lengths_in, values_in};
 ghost use Rattle.type_expr.specs.way.Calls.{called_on};
 ghost use Rattle.type_expr.specs.way.Lists.{parts_in};
 
+use crate::arrays::{array_over, element_or, made_with_elements, made_with_lengths};
+use crate::assignments::{assigned_to, counted};
+use crate::creations::{created, created_with_body, name_span};
+use crate::names::{named_before, selected, simple, super_selected};
+use crate::operators::{negative_literal, prefix_purpose, prefix_step, step_of, target_purpose};
+use crate::purpose::Purpose;
 use array_making::{Part, array_of};
 use array_steps::element;
 use body_places::this;
@@ -30,11 +36,6 @@ use call_parts::{CreationSpans, used};
 use call_steps::{call_on, receiver_of, simple_call, super_call};
 use conditional_steps::choice;
 use expr_steps::literal;
-use expression_forms::{
-    Purpose, array_over, assigned_to, counted, created, created_with_body, element_or,
-    made_with_elements, made_with_lengths, name_span, named_before, negative_literal,
-    prefix_purpose, prefix_step, selected, simple, step_of, super_selected, target_purpose,
-};
 use je_ast::{BinaryOp, Expr, Identifier, Name, PostfixOp, PrefixOp, TyName};
 use je_base::Span;
 use je_typing::{Refusal, TypeFault, TypeRule};
@@ -758,7 +759,7 @@ fn initializer(
 
 // What stands before a point.
 #[cycle(expression)]
-#[tactic(auto, using(expression_forms::proofs::Before::before_points))]
+#[tactic(auto, using(crate::proofs::Before::before_points))]
 fn before(bodies: Bodies, scope: &Scope, expr: &Expr) -> Result<Qualifier, Refusal>
     requires { HasAllMethods bodies }
     ensures ok { IfOk result (λ q. before_in bodies.entry scope.now (view expr.now) ≡ gives
@@ -776,7 +777,7 @@ fn before(bodies: Bodies, scope: &Scope, expr: &Expr) -> Result<Qualifier, Refus
 }
 
 #[cycle(expression)]
-#[tactic(auto, using(je_typing::proofs::Walks::walks, expression_forms::proofs::Before::literals))]
+#[tactic(auto, using(je_typing::proofs::Walks::walks, crate::proofs::Before::literals))]
 fn prefix(
     bodies: Bodies,
     scope: &Scope,

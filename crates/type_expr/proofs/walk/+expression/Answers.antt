@@ -14,8 +14,8 @@ use Rattle.array_making.specs.Parts.{part_seen}
 use Rattle.typed_nodes.specs.Seen.{seen}
 use Rattle.call_typing.specs.Calls.{receiver}
 use Rattle.body_typing.specs.Expressions.{named_before, read}
-use Rattle.expression_forms.proofs.Before.{value_faults, value_stands}
-use Rattle.expression_forms.specs.Seen.{purpose_seen}
+use Rattle.type_expr.proofs.Before.{value_faults, value_stands}
+use Rattle.type_expr.specs.Seen.{purpose_seen}
 use Rattle.body_scopes.specs.View.{scope_seen}
 use Rattle.body_walks.specs.Seen.{known_in, program_in}
 use Rattle.qualified_steps.specs.Qualifiers.{qualifier_seen}

@@ -5,7 +5,7 @@ use Rattle.je_ast.proofs.expr.Expr.TheLaws.{the_size}
 use Rattle.je_ast.specs.View.{views_of}
 use Rattle.array_making.specs.Parts.{part_seen}
 use Rattle.typed_nodes.specs.Seen.{seen}
-use Rattle.expression_forms.specs.Seen.{purpose_seen}
+use Rattle.type_expr.specs.Seen.{purpose_seen}
 use Rattle.type_expr.specs.Walk.{values_in}
 use Rattle.type_expr.specs.way.Lists.{parts_in}
 use Rattle.type_expr.proofs.Lists.{behind}

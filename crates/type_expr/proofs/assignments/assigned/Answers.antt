@@ -1,7 +1,7 @@
 use Rattle.std.proofs.lemmas.Result.{err_from_is_err_and}
 use Rattle.known_classes.specs.Known.{known_seen}
-use Rattle.expression_forms.proofs.Assigning.{asked_faults, both_give}
-use Rattle.expression_forms.proofs.assignments.assigned.Goals as goal
+use Rattle.type_expr.proofs.Assigning.{asked_faults, both_give}
+use Rattle.type_expr.proofs.assignments.assigned.Goals as goal
 
 pub returns-in_err-may_be_assigned-clause-err : goal.returns-in_err-may_be_assigned-clause-err
 unfolding known_seen

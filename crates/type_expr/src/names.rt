@@ -10,7 +10,7 @@ ghost use Rattle.body_typing.specs.Expressions.{before, named_before as the_name
 ghost use Rattle.body_scopes.specs.View.{scope_seen};
 ghost use Rattle.qualified_steps.specs.Qualifiers.{qualifier_seen};
 ghost use Rattle.typed_nodes.specs.Seen.{seen};
-ghost use Rattle.expression_forms.specs.Seen.{purpose_seen};
+ghost use Rattle.type_expr.specs.Seen.{purpose_seen};
 ghost use Rattle.body_walks.specs.Seen.{known_in, program_in};
 
 use crate::purpose::Purpose;

@@ -10,8 +10,8 @@ use Rattle.body_scopes.specs.View.{scope_seen}
 use Rattle.qualified_steps.specs.declared.qualifier.Qualifier.{Qualifier}
 use Rattle.qualified_steps.specs.Qualifiers.{qualifier_seen}
 use Rattle.body_walks.specs.Seen.{known_in, program_in}
-use Rattle.expression_forms.proofs.Before.{faults_at, first_faults, one_more_gives}
-use Rattle.expression_forms.proofs.names.+names.Goals as goal
+use Rattle.type_expr.proofs.Before.{faults_at, first_faults, one_more_gives}
+use Rattle.type_expr.proofs.names.+names.Goals as goal
 
 pub selected_before-returns-in_err-on-clause-err : goal.selected_before-returns-in_err-on-clause-err
 selected_before-returns-in_err-on-clause-err t c =

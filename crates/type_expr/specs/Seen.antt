@@ -1,8 +1,8 @@
 -- What contracts see of what an expression is for.
 use Rattle.body_typing.specs.Expressions as words
 use Rattle.name_types.specs.View.{shown}
-use Rattle.expression_forms.specs.declared.purpose.Purpose.{Purpose}
-use Rattle.expression_forms.specs.declared.purpose.Purpose.TheVariants.{Read, Assigned, Updated, Initial}
+use Rattle.type_expr.specs.declared.purpose.Purpose.{Purpose}
+use Rattle.type_expr.specs.declared.purpose.Purpose.TheVariants.{Read, Assigned, Updated, Initial}
 
 abbrev pub purpose_seen : Purpose → words.Purpose
 purpose_seen Read = words.read

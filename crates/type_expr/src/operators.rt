@@ -10,7 +10,7 @@ ghost use Rattle.je_typing.specs.Typed.{TypedNode};
 ghost use Rattle.body_typing.specs.Expressions.{negative_literal as the_negative_literal, or_else, prefix_purpose as the_prefix_purpose, prefix_step as the_prefix_step, step_of as the_step_of, target_purpose as the_target_purpose};
 ghost use Rattle.body_scopes.specs.View.{scope_seen};
 ghost use Rattle.typed_nodes.specs.Seen.{seen};
-ghost use Rattle.expression_forms.specs.Seen.{purpose_seen};
+ghost use Rattle.type_expr.specs.Seen.{purpose_seen};
 ghost use Rattle.body_walks.specs.Seen.{known_in, program_in};
 
 use crate::assignments::counted;

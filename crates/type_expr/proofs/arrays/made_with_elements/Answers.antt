@@ -6,8 +6,8 @@ use Rattle.typed_nodes.specs.declared.typed.TypedExpr.{TypedExpr}
 use Rattle.typed_nodes.specs.Seen.{seen}
 use Rattle.array_making.specs.Made.{new_array_of}
 use Rattle.array_making.specs.Parts.{part_seen}
-use Rattle.expression_forms.proofs.Types.{innermost_is}
-use Rattle.expression_forms.proofs.arrays.made_with_elements.Goals as goal
+use Rattle.type_expr.proofs.Types.{innermost_is}
+use Rattle.type_expr.proofs.arrays.made_with_elements.Goals as goal
 
 pub returns-clause-ok : goal.returns-clause-ok
 returns-clause-ok c =

@@ -4,7 +4,7 @@ use Rattle.je_scopes.specs.SourceTypes.{with_dims}
 use Rattle.name_types.specs.View.{base_shown}
 use Rattle.name_types.proofs.Views.{rolled_is}
 use Rattle.array_making.proofs.Dimensions.{added_dims}
-use Rattle.expression_forms.proofs.arrays.sized.Goals as goal
+use Rattle.type_expr.proofs.arrays.sized.Goals as goal
 
 pub returns : goal.returns
 returns c =

@@ -1,4 +1,0 @@
-pub mod Assigning
-pub mod Before
-pub mod Spans
-pub mod Types
