@@ -9,8 +9,8 @@ use Rattle.je_typing.specs.Answers.{IsFault}
 use Rattle.je_typing.specs.Judged.{Judged, gives}
 use Rattle.body_typing.specs.Bodies.{Done, followed, nothing_done}
 use Rattle.statement_forms.specs.declared.walk.Walk.{Walk}
-use Rattle.statement_values.proofs.Gathering.{gathered}
-use Rattle.statement_values.proofs.Gathered.{At, behind_it, done_all, done_fails, done_on, nothing_gathered}
+use Rattle.type_statements.proofs.Gathering.{gathered}
+use Rattle.type_statements.proofs.Gathered.{At, behind_it, done_all, done_fails, done_on, nothing_gathered}
 use Rattle.type_statements.specs.Walk.{statements_by}
 use Rattle.type_statements.specs.way.Written.{statement_by}
 

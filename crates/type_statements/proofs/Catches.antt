@@ -24,7 +24,7 @@ use Rattle.statement_parts.specs.View.{clause_seen}
 use Rattle.statement_parts.proofs.Following.{bind_behind, bind_kept}
 use Rattle.statement_forms.specs.declared.walk.Walk.{Walk}
 use Rattle.statement_forms.specs.Seen.{known_of, program_of, returning_of}
-use Rattle.statement_values.proofs.Gathering.{gather_fails, gathered, gathered_all, gathers_on}
+use Rattle.type_statements.proofs.Gathering.{gather_fails, gathered, gathered_all, gathers_on}
 use Rattle.type_statements.specs.Walk.{statements_by}
 use Rattle.type_statements.specs.way.Caught.{CaughtDone, one_catch}
 

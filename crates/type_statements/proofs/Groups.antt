@@ -17,8 +17,8 @@ use Rattle.body_scopes.specs.Extending.{Extends}
 use Rattle.statement_parts.proofs.Following.{bind_behind, bind_kept}
 use Rattle.statement_forms.specs.declared.walk.Walk.{Walk}
 use Rattle.statement_forms.specs.Seen.{known_of, program_of, returning_of}
-use Rattle.statement_values.proofs.Gathered.{At}
-use Rattle.statement_values.proofs.Gathering.{gather_fails, gathered, gathered_all, gathers_on}
+use Rattle.type_statements.proofs.Gathered.{At}
+use Rattle.type_statements.proofs.Gathering.{gather_fails, gathered, gathered_all, gathers_on}
 use Rattle.type_statements.specs.Walk.{statements_by}
 use Rattle.type_statements.specs.way.Grouped.{GroupDone, grouped, one_group}
 

@@ -1,3 +1,15 @@
+pub mod Adding
+pub mod Eaches
+pub mod Limits
+pub mod LocalsAdded
+pub mod Gathering
+pub mod Gathered
+pub mod StepLists
+pub mod VariableLists
+pub mod LabelLists
+pub mod Expressed
+pub mod Declared
+pub mod Initialized
 pub mod Staying
 pub mod Blocks
 pub mod Groups

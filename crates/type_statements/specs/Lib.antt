@@ -1,2 +1,3 @@
-pub mod Walk
+pub mod Written
 pub mod way
+pub mod Walk

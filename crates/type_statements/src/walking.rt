@@ -18,6 +18,14 @@ ghost use Rattle.type_statements.specs.way.Caught.{one_catch};
 ghost use Rattle.type_statements.specs.way.Grouped.{group_done, one_group};
 ghost use Rattle.type_statements.specs.way.Written.{a_block, a_do_while, a_for, a_for_each, a_labelled, a_switch, a_try, a_try_finally, a_while, an_if, an_if_else, statement_by};
 
+use crate::declaring::locals;
+use crate::each::{Elements, for_each_judged};
+use crate::expressing::{condition_or, condition_span, steps, valued};
+use crate::heads::{ForHead, for_start};
+use crate::local_classes::local_class;
+use crate::simple::{expression_statement, return_statement, throw_statement};
+use crate::switch_labels::labels;
+use crate::switches::switch_judged;
 use body_scopes::Scope;
 use body_type_steps::{bare_class_type, body_type};
 use fit_statements::{Targets, with_label};
@@ -32,11 +40,6 @@ use statement_forms::{
 };
 use statement_parts::{Clause, clauses, enum_of, selected_by};
 use statement_steps::{do_loop, if_statement, loop_statement};
-use statement_values::{
-    Elements, ForHead, condition_or, condition_span, expression_statement, for_each_judged,
-    for_start, labels, local_class, locals, return_statement, steps, switch_judged,
-    throw_statement, valued,
-};
 use tree_spans::span;
 
 /// The statements of a block, along which the scope grows.

@@ -1,6 +1,0 @@
-use Rattle.std.proofs.Common.{false}
-use Rattle.statement_values.proofs.Staying.{local_added}
-use Rattle.statement_values.proofs.declaring.without_initializer.Goals as goal
-
-pub returns-clause-extends : goal.returns-clause-extends
-returns-clause-extends c = local_added _ _ false _ c.in_ok-add_local.ensures

@@ -1,5 +1,0 @@
-use Rattle.statement_values.proofs.Adding.{class_added}
-use Rattle.statement_values.proofs.local_classes.added_class.Goals as goal
-
-pub returns-clause-extends : goal.returns-clause-extends
-returns-clause-extends c = class_added _ _ _ c.in_ok-add_class.ensures.scope
