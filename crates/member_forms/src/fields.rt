@@ -33,8 +33,7 @@ use je_core::{Expr as Node, Initializer, Mark, make_assign, make_field, make_sta
 use je_typing::Refusal;
 use met_in_bodies::{Met, add_met};
 use source_subtypes::{copied, erased};
-use statement_forms::performed;
-use statement_parts::variable_constant;
+use statement_forms::{performed, variable_constant};
 use std::alloc::Global;
 use std::rc::Rc;
 use tree_spans::span;

@@ -1,2 +1,4 @@
+pub mod View
+pub mod way
 pub mod Seen
 pub mod Written

@@ -13,7 +13,7 @@ use Rattle.body_scopes.specs.View.{scope_seen}
 use Rattle.body_scopes.specs.declared.scope.Scope.{Scope}
 use Rattle.body_walks.specs.Seen.{known_in, program_in}
 use Rattle.met_in_bodies.specs.Seen.{met_seen}
-use Rattle.statement_parts.specs.View.{group_seen}
+use Rattle.statement_forms.specs.View.{group_seen}
 use Rattle.statement_forms.specs.declared.done.Done.{Done}
 use Rattle.statement_forms.specs.declared.progress.Progress.{Progress}
 use Rattle.statement_forms.specs.declared.switches.Groups.{Groups}

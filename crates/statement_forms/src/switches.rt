@@ -3,11 +3,11 @@
 ghost use Rattle.std.specs.Prelude.{◌≡◌, ◌∷◌, ◌++◌, [], IfOk, OnOk, map};
 ghost use Rattle.je_core.specs.View.{stmt_view};
 ghost use Rattle.value_statements.specs.Labels.{label_seen};
-ghost use Rattle.statement_parts.specs.View.{group_seen};
+ghost use Rattle.statement_forms.specs.View.{group_seen};
 
 use crate::done::{Done, parts};
+use crate::switching::WrittenGroup;
 use je_base::Memory;
-use statement_parts::WrittenGroup;
 use std::alloc::Global;
 use value_statements::WrittenLabel;
 

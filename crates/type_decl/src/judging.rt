@@ -26,7 +26,7 @@ use je_core::ClassId;
 use je_typing::Refusal;
 use known_classes::Known;
 use name_walk::Context;
-use statement_parts::variable_constant;
+use statement_forms::variable_constant;
 use std::alloc::Global;
 use type_expr::{Purpose, value};
 

@@ -19,9 +19,9 @@ use Rattle.body_typing.specs.FinalVariables.{Scope}
 use Rattle.body_typing.specs.Bodies.{Done, Progress, block_of, local_of, next_number, with_local, with_number}
 use Rattle.body_typing.specs.Catches.{Clause, caught_name}
 use Rattle.body_typing.specs.Statements.{ListDone, catches, clause, none_done, one_more}
-use Rattle.statement_parts.specs.declared.catches.Clause.{Clause as Written}
-use Rattle.statement_parts.specs.View.{clause_seen}
-use Rattle.statement_parts.proofs.Following.{bind_behind, bind_kept}
+use Rattle.statement_forms.specs.declared.catches.Clause.{Clause as Written}
+use Rattle.statement_forms.specs.View.{clause_seen}
+use Rattle.statement_forms.proofs.Following.{bind_behind, bind_kept}
 use Rattle.statement_forms.specs.declared.walk.Walk.{Walk}
 use Rattle.statement_forms.specs.Seen.{known_of, program_of, returning_of}
 use Rattle.type_statements.proofs.Gathering.{gather_fails, gathered, gathered_all, gathers_on}

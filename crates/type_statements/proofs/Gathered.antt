@@ -5,7 +5,7 @@ use Rattle.je_typing.specs.Answers.{IsFault}
 use Rattle.je_typing.specs.Judged.{Judged, gives, bind}
 use Rattle.body_typing.specs.FinalVariables.{Scope}
 use Rattle.body_typing.specs.Bodies.{Done, Progress, followed, nothing_done}
-use Rattle.statement_parts.proofs.Following.{bind_kept}
+use Rattle.statement_forms.proofs.Following.{bind_kept}
 use Rattle.type_statements.proofs.Gathering.{gather_fails, gathered, gathered_all, gathers_on}
 
 -- a scope, and what is met so far

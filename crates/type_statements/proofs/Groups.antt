@@ -14,7 +14,7 @@ use Rattle.body_typing.specs.Bodies.{Done, Progress, with_classes_of}
 use Rattle.body_typing.specs.Statements.{GroupsDone, groups}
 use Rattle.body_typing.specs.Switches.{LabelsMet, WrittenGroup, labels}
 use Rattle.body_scopes.specs.Extending.{Extends}
-use Rattle.statement_parts.proofs.Following.{bind_behind, bind_kept}
+use Rattle.statement_forms.proofs.Following.{bind_behind, bind_kept}
 use Rattle.statement_forms.specs.declared.walk.Walk.{Walk}
 use Rattle.statement_forms.specs.Seen.{known_of, program_of, returning_of}
 use Rattle.type_statements.proofs.Gathered.{At}

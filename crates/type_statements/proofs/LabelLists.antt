@@ -16,7 +16,7 @@ use Rattle.body_typing.specs.Bodies.{Progress}
 use Rattle.body_typing.specs.Switches.{LabelsMet, label_value, labels, one_more}
 use Rattle.value_statements.specs.declared.labels.WrittenLabel.{WrittenLabel as Written}
 use Rattle.value_statements.specs.Labels.{label_seen}
-use Rattle.statement_parts.proofs.Following.{bind_behind, bind_kept}
+use Rattle.statement_forms.proofs.Following.{bind_behind, bind_kept}
 use Rattle.statement_forms.specs.declared.walk.Walk.{Walk}
 use Rattle.statement_forms.specs.Seen.{known_of, program_of}
 use Rattle.type_statements.specs.way.Labelled.{behind_one, one_label}

@@ -17,7 +17,7 @@ use Rattle.body_typing.specs.Expressions.{expression, read}
 use Rattle.body_typing.specs.FinalVariables.{Scope}
 use Rattle.body_typing.specs.Bodies.{Done, Progress, behind, followed, nothing_done, one, performed}
 use Rattle.body_typing.specs.Statements.{ListDone, none_done, one_more, performed_steps, steps}
-use Rattle.statement_parts.proofs.Following.{bind_kept}
+use Rattle.statement_forms.proofs.Following.{bind_kept}
 use Rattle.statement_forms.specs.declared.walk.Walk.{Walk}
 use Rattle.statement_forms.specs.Seen.{known_of, program_of, returning_of}
 use Rattle.type_statements.proofs.Gathering.{gather_fails, gathered, gathered_all, gathers_on}

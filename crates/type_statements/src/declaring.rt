@@ -32,9 +32,9 @@ use met_in_bodies::add_met;
 use name_types::SrcTy;
 use source_subtypes::copied;
 use statement_forms::{
-    Done, Progress, Walk, add_number, alloc, follow, local_of, next_number, nothing, performed,
+    Done, Progress, Walk, add_number, alloc, assigned_to, follow, local_of, new_name, next_number,
+    nothing, performed, variable_constant,
 };
-use statement_parts::{assigned_to, new_name, variable_constant};
 use std::alloc::Global;
 use tree_spans::span;
 use type_expr::{Purpose, value};

@@ -25,8 +25,9 @@ use je_core::{Expr as Node, Stmt, make_block};
 use je_typing::{Refusal, TypeRule};
 use name_types::SrcTy;
 use source_subtypes::copied;
-use statement_forms::{Walk, alloc, parts, start_of, with_label};
-use statement_parts::{Each, begins, element, new_name, turns};
+use statement_forms::{
+    Each, Walk, alloc, begins, element, new_name, parts, start_of, turns, with_label,
+};
 use std::alloc::Global;
 use std::rc::Rc;
 use tree_spans::span;

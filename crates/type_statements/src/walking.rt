@@ -10,7 +10,7 @@ ghost use Rattle.je_typing.specs.Judged.{gives};
 ghost use Rattle.body_typing.specs.Statements.{catches as the_catches, groups as the_groups};
 ghost use Rattle.body_scopes.specs.Extending.{Extends};
 ghost use Rattle.body_scopes.specs.View.{scope_seen};
-ghost use Rattle.statement_parts.specs.View.{clause_seen};
+ghost use Rattle.statement_forms.specs.View.{clause_seen};
 ghost use Rattle.body_walks.specs.Seen.{HasAllMethods};
 ghost use Rattle.statement_forms.specs.Seen.{done_seen, groups_in, known_of, program_of, progress_seen, returning_of};
 ghost use Rattle.type_statements.specs.Walk.{statements_by};
@@ -34,11 +34,11 @@ use je_base::Span;
 use je_core::{ClassId, make_try};
 use je_typing::Refusal;
 use statement_forms::{
-    Done, EachHead, Groups, Progress, Walk, WalkedGroup, add_element, add_group, add_number, alloc,
-    alone, block_of, empty_statement, follow, for_code, grouped, is_loop, jump_statement,
-    labelled_code, local_of, next_number, next_numbers, no_groups, nothing, one,
+    Clause, Done, EachHead, Groups, Progress, Walk, WalkedGroup, add_element, add_group,
+    add_number, alloc, alone, block_of, clauses, empty_statement, enum_of, follow, for_code,
+    grouped, is_loop, jump_statement, labelled_code, local_of, next_number, next_numbers,
+    no_groups, nothing, one, selected_by,
 };
-use statement_parts::{Clause, clauses, enum_of, selected_by};
 use statement_steps::{do_loop, if_statement, loop_statement};
 use tree_spans::span;
 

@@ -6,7 +6,7 @@ use Rattle.je_typing.specs.Judged.{Judged, gives, ◌>>=◌}
 use Rattle.body_typing.specs.FinalVariables.{Scope}
 use Rattle.body_typing.specs.Bodies.{Done, Progress, with_classes_of}
 use Rattle.body_typing.specs.Switches.{LabelsMet, WrittenGroup, labels}
-use Rattle.statement_parts.specs.View.{group_seen}
+use Rattle.statement_forms.specs.View.{group_seen}
 use Rattle.statement_forms.specs.declared.switches.WalkedGroup.{WalkedGroup}
 use Rattle.statement_forms.specs.declared.walk.Walk.{Walk}
 use Rattle.statement_forms.specs.Seen.{known_of, program_of}

@@ -21,7 +21,7 @@ use Rattle.typed_nodes.specs.Seen.{seen}
 use Rattle.body_places.specs.Places.{local_seen}
 use Rattle.body_scopes.specs.View.{scope_seen}
 use Rattle.body_scopes.proofs.Extending.{extends_further, extends_itself}
-use Rattle.statement_parts.specs.View.{clause_seen, group_seen}
+use Rattle.statement_forms.specs.View.{clause_seen, group_seen}
 use Rattle.statement_forms.specs.Seen.{done_seen, groups_in, known_of, program_of, progress_seen, returning_of}
 use Rattle.type_statements.proofs.Staying.{local_added, stays_extends}
 use Rattle.type_statements.proofs.Blocks.{block_begin, block_end, block_fail, block_on}

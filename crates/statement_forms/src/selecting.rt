@@ -8,7 +8,7 @@ ghost use Rattle.name_types.specs.View.{shown};
 ghost use Rattle.source_subtypes.specs.View.{heads_of};
 ghost use Rattle.body_typing.specs.Switches.{constant_place as the_constant_place, enum_of as the_enum_of, is_constant_name, place_node as the_place_node, selected_by as the_selected_by};
 ghost use Rattle.typed_nodes.specs.Seen.{seen};
-ghost use Rattle.statement_parts.specs.way.Enums.{enum_in as the_enum_in};
+ghost use Rattle.statement_forms.specs.way.Enums.{enum_in as the_enum_in};
 
 use folded_nodes::mark_of;
 use header_steps::class_of;

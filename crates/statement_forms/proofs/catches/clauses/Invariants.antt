@@ -4,9 +4,9 @@ use Rattle.je_core.specs.View.{catch_view}
 use Rattle.source_subtypes.specs.View.{heads_of}
 use Rattle.body_typing.specs.Catches.{clauses}
 use Rattle.body_scopes.specs.View.{scope_seen}
-use Rattle.statement_parts.specs.View.{clause_seen}
-use Rattle.statement_parts.proofs.Caught.{left_behind}
-use Rattle.statement_parts.proofs.catches.clauses.Given as goal
+use Rattle.statement_forms.specs.View.{clause_seen}
+use Rattle.statement_forms.proofs.Caught.{left_behind}
+use Rattle.statement_forms.proofs.catches.clauses.Given as goal
 
 abbrev pub invariant-loop-one : goal.invariant-loop-one
 invariant-loop-one l =

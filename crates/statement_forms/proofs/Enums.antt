@@ -10,7 +10,7 @@ use Rattle.name_types.specs.View.{shown}
 use Rattle.source_subtypes.proofs.Equal.{shown-dims}
 use Rattle.header_typing.specs.Supers.{class_in}
 use Rattle.body_typing.specs.Switches.{enum_of}
-use Rattle.statement_parts.specs.way.Enums.{enum_in}
+use Rattle.statement_forms.specs.way.Enums.{enum_in}
 
 none-more : (n : ℕ) (x : Option ℕ) → None ≡ (if nat_eq (suc n) 0 then x else None)
 none-more n x = let e : nat_eq (suc n) 0 ≡ false = grind (arith, nat_tests) in ap (λ (b : Bool). if b then x else None) (sym e)

@@ -10,10 +10,10 @@ use Rattle.statement_steps.specs.Switches.{none_met}
 use Rattle.body_typing.specs.Switches.{groups_from}
 use Rattle.value_statements.specs.declared.labels.WrittenLabel.{WrittenLabel}
 use Rattle.value_statements.specs.Labels.{GivesLabels, label_seen}
-use Rattle.statement_parts.specs.declared.switching.WrittenGroup.{WrittenGroup}
-use Rattle.statement_parts.specs.View.{group_seen}
-use Rattle.statement_parts.proofs.Grouped.{Grouping, group_fails, group_made, groups_end, none_made}
-use Rattle.statement_parts.proofs.switching.groups.Goals as goal
+use Rattle.statement_forms.specs.declared.switching.WrittenGroup.{WrittenGroup}
+use Rattle.statement_forms.specs.View.{group_seen}
+use Rattle.statement_forms.proofs.WalkedGroups.{Grouping, group_fails, group_made, groups_end, none_made}
+use Rattle.statement_forms.proofs.switching.groups.Goals as goal
 
 pub loop-group-init : goal.loop-group-init
 loop-group-init c =

@@ -12,7 +12,7 @@ use Rattle.statement_steps.specs.Switches.{LabelsDone, Met, WrittenLabel, labels
 use Rattle.body_typing.specs.Switches.{WrittenGroup, core_group, groups_from}
 use Rattle.value_statements.specs.declared.met.LabelsMet.{LabelsMet}
 use Rattle.value_statements.specs.Labels.{FailsAt, GivesLabels, Knows, behind}
-use Rattle.statement_parts.proofs.Following.{bind_behind, bind_kept}
+use Rattle.statement_forms.proofs.Following.{bind_behind, bind_kept}
 
 same-groups : (gs : CoreGroups) → core_groups (group_list_of gs) ≡ gs
 same-groups no_groups = refl

@@ -9,7 +9,7 @@ ghost use Rattle.name_types.specs.View.{shown};
 ghost use Rattle.source_subtypes.specs.View.{heads_of};
 ghost use Rattle.statement_steps.specs.Switches.{none_met};
 ghost use Rattle.body_typing.specs.Switches.{groups_from};
-ghost use Rattle.statement_parts.specs.View.{group_seen};
+ghost use Rattle.statement_forms.specs.View.{group_seen};
 
 use je_core::{Group, Stmt, make_group};
 use je_typing::Refusal;

@@ -7,10 +7,10 @@ use Rattle.je_core.specs.View.{catch_view}
 use Rattle.source_subtypes.specs.View.{heads_of}
 use Rattle.body_typing.specs.Catches as words
 use Rattle.body_scopes.specs.View.{scope_seen}
-use Rattle.statement_parts.specs.declared.catches.Clause.{Clause}
-use Rattle.statement_parts.specs.View.{clause_seen}
-use Rattle.statement_parts.proofs.Caught.{clause_fails, clause_made, clauses_begin, clauses_end, left_behind}
-use Rattle.statement_parts.proofs.catches.clauses.Goals as goal
+use Rattle.statement_forms.specs.declared.catches.Clause.{Clause}
+use Rattle.statement_forms.specs.View.{clause_seen}
+use Rattle.statement_forms.proofs.Caught.{clause_fails, clause_made, clauses_begin, clauses_end, left_behind}
+use Rattle.statement_forms.proofs.catches.clauses.Goals as goal
 
 pub loop-one-init : goal.loop-one-init
 loop-one-init c =

@@ -3,9 +3,9 @@ use Rattle.std.specs.Vec.Iter.{into_iter_items, into_iter_len}
 use Rattle.je_core.specs.View.{group_view}
 use Rattle.name_types.specs.View.{shown}
 use Rattle.source_subtypes.specs.View.{heads_of}
-use Rattle.statement_parts.specs.View.{group_seen}
-use Rattle.statement_parts.proofs.Grouped.{Grouping}
-use Rattle.statement_parts.proofs.switching.groups.Given as goal
+use Rattle.statement_forms.specs.View.{group_seen}
+use Rattle.statement_forms.proofs.WalkedGroups.{Grouping}
+use Rattle.statement_forms.proofs.switching.groups.Given as goal
 
 abbrev pub invariant-loop-group : goal.invariant-loop-group
 invariant-loop-group l =

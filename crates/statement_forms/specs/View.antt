@@ -5,8 +5,8 @@ use Rattle.name_types.specs.View.{shown}
 use Rattle.body_typing.specs.Catches as catches
 use Rattle.body_typing.specs.Switches as switches
 use Rattle.value_statements.specs.Labels.{label_seen}
-use Rattle.statement_parts.specs.declared.catches.Clause.{Clause}
-use Rattle.statement_parts.specs.declared.switching.WrittenGroup.{WrittenGroup}
+use Rattle.statement_forms.specs.declared.catches.Clause.{Clause}
+use Rattle.statement_forms.specs.declared.switching.WrittenGroup.{WrittenGroup}
 
 abbrev pub group_seen : WrittenGroup → switches.WrittenGroup
 group_seen g = record { labels = map label_seen g.labels.items; parts = stmt_views g.parts.items }

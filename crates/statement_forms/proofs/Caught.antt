@@ -12,8 +12,8 @@ use Rattle.statement_steps.specs.Thrown.{caught_class}
 use Rattle.body_typing.specs.FinalVariables.{Scope}
 use Rattle.body_typing.specs.Catches.{Clause, clauses}
 use Rattle.body_typing.specs.LocalVariables.{new_name}
-use Rattle.statement_parts.specs.way.Clauses.{clause}
-use Rattle.statement_parts.proofs.Following.{bind_behind, bind_kept}
+use Rattle.statement_forms.specs.way.Clauses.{clause}
+use Rattle.statement_forms.proofs.Following.{bind_behind, bind_kept}
 
 same-catches : (cs : CoreCatches) → core_catches (catch_list_of cs) ≡ cs
 same-catches no_catches = refl

@@ -1,4 +1,0 @@
-pub mod Following
-pub mod Caught
-pub mod Grouped
-pub mod Enums
