@@ -1,19 +1,14 @@
--- What contracts see of what bodies are judged by.
-use Rattle.name_typing.specs.Program.{Program}
-use Rattle.class_heads.specs.View.{classes_of}
-use Rattle.source_subtypes.specs.View.{heads_of}
-use Rattle.method_candidates.specs.TableView.{HasMethods}
-use Rattle.body_typing.specs.Expressions.{Known}
-use Rattle.body_places.specs.View.{program_seen}
-use Rattle.known_classes.specs.Known.{known_seen}
-use Rattle.body_walks.specs.declared.bodies.Bodies.{Bodies}
+-- What contracts see of what is met in bodies.
+use Rattle.je_ast.specs.Types.{type_view}
+use Rattle.je_ast.specs.View.{views_of}
+use Rattle.body_typing.specs.Bodies as words
+use Rattle.body_walks.specs.declared.met.Met.{Met}
+use Rattle.body_walks.specs.declared.met.Met.TheVariants.{Captures, Makes, Stands, StandsBehindNew}
+use Rattle.body_walks.specs.Standings.{standing_seen}
 
-abbrev pub program_in : Bodies → Program
-program_in b = program_seen b.calls.program
-
-abbrev pub known_in : Bodies → Known
-known_in b = known_seen (program_in b) b.known
-
--- its table holds of each class the methods that the class has
-abbrev pub HasAllMethods : Bodies → Type 0
-HasAllMethods b = HasMethods (heads_of b.calls.program.heads.now) (classes_of b.calls.program.classes) b.calls.methods.now
+abbrev pub met_seen : Met → words.Met
+met_seen (Captures within owner local) = words.captures within.0 owner.0 local
+met_seen (Makes within made) = words.makes within.0 made.0
+met_seen (Stands class scope) = words.stands class.0 (standing_seen scope)
+met_seen (StandsBehindNew class scope word ty arguments) =
+    words.stands_behind_new class.0 (standing_seen scope) word (type_view ty.now) (views_of arguments.now)

@@ -2,9 +2,9 @@
 use Rattle.std.proofs.Common.{◌≡◌, ℕ, refl}
 use Rattle.je_core.specs.declared.types.ClassId.{ClassId}
 use Rattle.body_typing.specs.Bodies as bodies
-use Rattle.met_in_bodies.specs.declared.met.Met.{Met}
-use Rattle.met_in_bodies.specs.declared.met.Met.TheVariants as met
-use Rattle.met_in_bodies.specs.Seen.{met_seen}
+use Rattle.body_walks.specs.declared.met.Met.{Met}
+use Rattle.body_walks.specs.declared.met.Met.TheVariants as met
+use Rattle.body_walks.specs.Seen.{met_seen}
 
 pub names_nothing : (one : Met) → ((w o : ClassId) (l : ℕ) → one ≡ met.Captures w o l → ⊥) → (x y z : ℕ) → met_seen one ≡ bodies.captures x y z → ⊥
 names_nothing (met.Captures w o l) never x y z e = never w o l refl

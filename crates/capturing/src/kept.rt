@@ -5,15 +5,15 @@ ghost use Rattle.std.specs.List.{list_any};
 ghost use Rattle.je_scopes.specs.Headers.{site_at};
 ghost use Rattle.name_lookup.specs.View.{numbers};
 ghost use Rattle.body_places.specs.View.{program_seen};
-ghost use Rattle.met_in_bodies.specs.Seen.{met_seen};
+ghost use Rattle.body_walks.specs.Seen.{met_seen};
 ghost use Rattle.capturing.specs.way.Kept.{AreAll, Gains, Is, IsDirect, IsHandedOn, IsHandedTo};
 
 use crate::users::{Users, all_users};
 use body_places::Program;
+use body_walks::Met;
 use indexmap::IndexSet;
 use je_base::Memory;
 use je_core::ClassId;
-use met_in_bodies::Met;
 
 /// A local of a body of a class, and a class inside that body which captures it.
 #[derive(Clone, Copy, PartialEq, Eq, Hash, Debug)]

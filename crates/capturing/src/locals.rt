@@ -5,16 +5,16 @@ ghost use Rattle.class_typing.specs.Captures.{captured_locals as the_captured_lo
 ghost use Rattle.body_places.specs.Places.{frame_seen, local_seen};
 ghost use Rattle.body_places.specs.View.{program_seen};
 ghost use Rattle.known_classes.specs.Known.{captured_local_seen, captured_seen, round_seen};
-ghost use Rattle.met_in_bodies.specs.Seen.{met_seen};
+ghost use Rattle.body_walks.specs.Seen.{met_seen};
 ghost use Rattle.capturing.specs.way.Locals.{is_kept, locals_from, own};
 
 use crate::kept::{Kept, all_kept};
 use body_places::{Frame, LocalVariable, Program};
+use body_walks::{Met, copied_local};
 use indexmap::IndexSet;
 use je_base::Memory;
 use je_core::ClassId;
 use known_classes::CapturedLocal;
-use met_in_bodies::{Met, copied_local};
 use std::alloc::Global;
 
 // Those of a body.

@@ -5,14 +5,14 @@ ghost use Rattle.std.specs.List.{Contains};
 ghost use Rattle.class_typing.specs.Captures.{class_of_type};
 ghost use Rattle.name_types.specs.View.{shown};
 ghost use Rattle.body_places.specs.View.{program_seen};
-ghost use Rattle.met_in_bodies.specs.Seen.{met_seen};
+ghost use Rattle.body_walks.specs.Seen.{met_seen};
 ghost use Rattle.capturing.specs.way.Users.{Adds, AreUsers, IsBelow, IsMaker, IsRound, IsUnder};
 
 use body_places::Program;
+use body_walks::Met;
 use header_steps::class_of;
 use je_base::Memory;
 use je_core::ClassId;
-use met_in_bodies::Met;
 use name_types::SrcTy;
 use std::alloc::Global;
 

@@ -2,12 +2,12 @@
 
 ghost use Rattle.std.specs.Prelude.{◌≡◌, map, option_map, slice_get};
 ghost use Rattle.class_typing.specs.Places.{class_standing as the_class_standing};
-ghost use Rattle.met_in_bodies.specs.Seen.{met_seen};
+ghost use Rattle.body_walks.specs.Seen.{met_seen};
 ghost use Rattle.name_sites.specs.Number.{number_in};
 
+use body_walks::Met;
 use je_base::Memory;
 use je_core::ClassId;
-use met_in_bodies::Met;
 use std::alloc::Global;
 
 // The class of which it is told where it stands.
@@ -37,7 +37,7 @@ impl Stands {
     ghost use Rattle.std.specs.List.{find};
     ghost use Rattle.class_typing.specs.Places.{stands_at};
     ghost use Rattle.class_places.specs.First.{AreFirst, place_of};
-    ghost use Rattle.met_in_bodies.specs.Seen.{met_seen};
+    ghost use Rattle.body_walks.specs.Seen.{met_seen};
     ghost use Rattle.body_typing.specs.Bodies.{Met as TheMet};
 
     /// Of so many classes, where nothing was met.

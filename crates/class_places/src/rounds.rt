@@ -11,13 +11,13 @@ ghost use Rattle.body_places.specs.Places.{frame_seen};
 ghost use Rattle.class_places.specs.First.{AreFirst};
 ghost use Rattle.class_places.specs.way.Rounds.{body_seen, class_in, round_behind};
 ghost use Rattle.class_typing.specs.Places.{frames_met, in_body as the_in_body, placed_by as the_placed_by, round_class as the_round_class, round_met as the_round_met, round_without_locals as the_round_without_locals};
-ghost use Rattle.met_in_bodies.specs.Seen.{met_seen};
+ghost use Rattle.body_walks.specs.Seen.{met_seen};
 
 use crate::first::Stands;
 use body_places::Frame;
+use body_walks::{Met, Standing, copied_frame};
 use je_base::Memory;
 use je_core::ClassId;
-use met_in_bodies::{Met, Standing, copied_frame};
 use name_sites::{Sites, is_local};
 use name_walk::Context;
 use std::alloc::Global;

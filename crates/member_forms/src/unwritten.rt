@@ -17,7 +17,7 @@ ghost use Rattle.overloads.specs.View.{candidate_seen};
 ghost use Rattle.class_typing.specs.Constructors.{declared_parameters as the_declared_parameters, locals_from as the_locals_from, unnamed_local, unwritten_constructor as constructor_named};
 ghost use Rattle.class_typing.specs.Members.{nothing as the_nothing};
 ghost use Rattle.body_scopes.specs.View.{scope_seen};
-ghost use Rattle.met_in_bodies.specs.Standings.{standing_seen};
+ghost use Rattle.body_walks.specs.Standings.{standing_seen};
 ghost use Rattle.member_forms.specs.Seen.{members_seen, program_of};
 ghost use Rattle.member_forms.specs.Walks.{anonymous_code as the_anonymous_code, chosen_by, default_code as the_default_code, default_constructor as the_default_constructor, is_without_constructor as the_is_without_constructor};
 ghost use Rattle.member_forms.specs.way.Unwritten.{handed_to, is_constructor, unwritten_constructor as the_unwritten_constructor};
@@ -30,6 +30,7 @@ use crate::walk::{ClassWalk, alloc};
 use body_places::this_node;
 use body_scopes::Scope;
 use body_type_steps::anonymous_type;
+use body_walks::{Standing, copied_frame};
 use call_parts::made_of;
 use call_steps::chosen_constructor;
 use creation_steps::implicit_constructor_call;
@@ -42,7 +43,6 @@ use je_core::{
     make_local,
 };
 use je_typing::Refusal;
-use met_in_bodies::{Standing, copied_frame};
 use method_candidates::default_constructor as default_candidate;
 use name_types::SrcTy;
 use name_walk::Context;

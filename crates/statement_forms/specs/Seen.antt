@@ -11,8 +11,8 @@ use Rattle.body_typing.specs.Bodies as bodies
 use Rattle.body_typing.specs.Statements.{GroupsDone}
 use Rattle.body_scopes.specs.View.{scope_seen}
 use Rattle.body_scopes.specs.declared.scope.Scope.{Scope}
-use Rattle.body_walks.specs.Seen.{known_in, program_in}
-use Rattle.met_in_bodies.specs.Seen.{met_seen}
+use Rattle.body_walks.specs.Walks.{known_in, program_in}
+use Rattle.body_walks.specs.Seen.{met_seen}
 use Rattle.statement_forms.specs.View.{group_seen}
 use Rattle.statement_forms.specs.declared.done.Done.{Done}
 use Rattle.statement_forms.specs.declared.progress.Progress.{Progress}

@@ -6,9 +6,9 @@ ghost use Rattle.source_subtypes.specs.View.{heads_of};
 ghost use Rattle.body_typing.specs.Bodies.{next_number as the_next_number, with_number};
 ghost use Rattle.statement_forms.specs.Seen.{progress_seen};
 
+use body_walks::Met;
 use je_base::{Memory, NameId, Span};
 use je_core::Local;
-use met_in_bodies::Met;
 use name_types::SrcTy;
 use source_subtypes::{ClassHeads, erased};
 

@@ -9,7 +9,7 @@ use Rattle.je_typing.specs.Judged.{Judged, gives, faulty, bind}
 use Rattle.je_typing.proofs.Walks.{bind_faults, bind_gives}
 use Rattle.name_typing.specs.Program.{Constant}
 use Rattle.body_typing.specs.Bodies.{Met}
-use Rattle.body_walks.specs.Seen.{known_in, program_in}
+use Rattle.body_walks.specs.Walks.{known_in, program_in}
 use Rattle.body_places.specs.Tables.{constant_at}
 use Rattle.body_scopes.specs.View.{blank_seen}
 use Rattle.known_classes.specs.Known.{captured_seen, known_seen, round_seen}

@@ -11,7 +11,7 @@ use Rattle.body_typing.specs.Bodies.{Met}
 use Rattle.declarations.specs.Declarations.{DeclaredClass}
 use Rattle.source_types.specs.Heads.{ClassHead}
 use Rattle.body_scopes.specs.View.{blank_seen}
-use Rattle.body_walks.specs.Seen.{HasAllMethods, program_in}
+use Rattle.body_walks.specs.Walks.{HasAllMethods, program_in}
 use Rattle.class_heads.specs.View.{classes_of}
 use Rattle.class_methods.specs.HierarchyView.{HasAll}
 use Rattle.class_methods.specs.declared.hierarchy.Hierarchy.{Hierarchy}

@@ -9,7 +9,7 @@ ghost use Rattle.je_typing.specs.Judged.{gives};
 ghost use Rattle.statement_steps.specs.View.{returning_seen};
 ghost use Rattle.body_typing.specs.Statements.{statements as the_statements};
 ghost use Rattle.body_scopes.specs.View.{scope_seen};
-ghost use Rattle.body_walks.specs.Seen.{HasAllMethods};
+ghost use Rattle.body_walks.specs.Walks.{HasAllMethods};
 ghost use Rattle.statement_forms.specs.Seen.{done_seen, progress_seen};
 ghost use Rattle.member_forms.specs.Seen.{known_of, program_of};
 ghost use Rattle.member_forms.specs.Walks.{begun, body_done};

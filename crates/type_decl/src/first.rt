@@ -14,7 +14,7 @@ ghost use Rattle.je_typing.specs.Judged.{gives};
 ghost use Rattle.known_classes.specs.Known.{captured_seen};
 ghost use Rattle.library_classes.specs.Library.{all_due};
 ghost use Rattle.library_classes.specs.Numbers.{number_in};
-ghost use Rattle.met_in_bodies.specs.Seen.{met_seen};
+ghost use Rattle.body_walks.specs.Seen.{met_seen};
 ghost use Rattle.method_candidates.specs.TableView.{HasMethods};
 ghost use Rattle.signature_steps.specs.View.{is_among};
 ghost use Rattle.source_subtypes.specs.View.{heads_of};

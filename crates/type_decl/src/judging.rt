@@ -4,7 +4,7 @@ ghost use Rattle.std.specs.Prelude.{◌≡◌, ℕ, IfOk, map, option_map, slice
 ghost use Rattle.body_places.specs.Places.{frame_seen};
 ghost use Rattle.body_places.specs.Tables.{constant_at, constant_in, constant_seen};
 ghost use Rattle.body_scopes.specs.View.{scope_seen};
-ghost use Rattle.body_walks.specs.Seen.{HasAllMethods, known_in, program_in};
+ghost use Rattle.body_walks.specs.Walks.{HasAllMethods, known_in, program_in};
 ghost use Rattle.class_typing.specs.ConstantFields.{if_final, in_initializer, nothing_known, unwritten};
 ghost use Rattle.declarations.specs.View.{field_shown};
 ghost use Rattle.body_typing.specs.Expressions.{expression, initial, value as the_value};

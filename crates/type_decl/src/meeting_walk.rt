@@ -6,7 +6,7 @@ ghost use Rattle.je_typing.specs.Answers.{IsFault};
 ghost use Rattle.je_typing.specs.Judged.{gives};
 ghost use Rattle.body_places.specs.Tables.{constant_at};
 ghost use Rattle.body_places.specs.View.{program_seen};
-ghost use Rattle.body_walks.specs.Seen.{HasAllMethods, program_in};
+ghost use Rattle.body_walks.specs.Walks.{HasAllMethods, program_in};
 ghost use Rattle.class_typing.specs.Elaboration.{constants_first, first_bodies as the_first_bodies};
 ghost use Rattle.class_typing.specs.Programs.{library_count};
 ghost use Rattle.type_decl.specs.way.Seen.{ArePlaced, IsFirst, bodies_met_seen};

@@ -4,7 +4,7 @@ ghost use Rattle.std.specs.Prelude.{◌≡◌, ◌≤◌, ℕ, IfOk, OnOk, lengt
 ghost use Rattle.std.specs.List.{sum_by};
 ghost use Rattle.body_places.specs.Places.{frame_seen};
 ghost use Rattle.body_places.specs.Tables.{constant_at, constant_in};
-ghost use Rattle.body_walks.specs.Seen.{HasAllMethods, known_in, program_in};
+ghost use Rattle.body_walks.specs.Walks.{HasAllMethods, known_in, program_in};
 ghost use Rattle.class_heads.specs.View.{classes_of};
 ghost use Rattle.class_typing.specs.ConstantFields.{constants_of, field_value, nothing_known, unwritten};
 ghost use Rattle.je_classes.specs.Members.{Member};

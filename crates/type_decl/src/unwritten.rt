@@ -8,14 +8,15 @@ ghost use Rattle.je_typing.specs.Judged.{gives};
 ghost use Rattle.name_walk.specs.View.{written_view};
 ghost use Rattle.overloads.specs.View.{candidate_seen};
 ghost use Rattle.class_typing.specs.Constructors.{chosen_for as the_chosen_for};
-ghost use Rattle.body_walks.specs.Seen.{HasAllMethods};
-ghost use Rattle.met_in_bodies.specs.Seen.{met_seen};
-ghost use Rattle.met_in_bodies.specs.Standings.{standing_seen};
+ghost use Rattle.body_walks.specs.Walks.{HasAllMethods};
+ghost use Rattle.body_walks.specs.Seen.{met_seen};
+ghost use Rattle.body_walks.specs.Standings.{standing_seen};
 ghost use Rattle.member_forms.specs.Seen.{known_of, members_seen, program_of};
 ghost use Rattle.type_decl.specs.way.Walks.{anonymous_constructor as the_anonymous_constructor};
 ghost use Rattle.type_decl.specs.way.Unwritten.{anonymous_at as the_anonymous_at, unwritten_for, unwritten_if};
 
 use crate::enums::enum_members;
+use body_walks::{Met, Standing};
 use je_ast::{Expr, TyName};
 use je_base::Span;
 use je_core::Sort;
@@ -25,7 +26,6 @@ use member_forms::{
     ClassWalk, MembersDone, alloc, anonymous_code, chosen_for, default_constructor,
     is_without_constructor, nothing, scope_at,
 };
-use met_in_bodies::{Met, Standing};
 use name_walk::Written;
 use overloads::Candidate;
 use type_expr::values;

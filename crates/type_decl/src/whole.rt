@@ -3,7 +3,7 @@
 ghost use Rattle.std.specs.Prelude.{◌≡◌, IfErr, IfOk, length, map};
 ghost use Rattle.name_sites.specs.View.{source_of};
 ghost use Rattle.body_places.specs.Tables.{constant_at};
-ghost use Rattle.body_walks.specs.Seen.{HasAllMethods, program_in};
+ghost use Rattle.body_walks.specs.Walks.{HasAllMethods, program_in};
 ghost use Rattle.class_heads.specs.View.{behind, classes_of};
 ghost use Rattle.class_typing.specs.ConstantFields.{constants_shifted};
 ghost use Rattle.class_typing.specs.Elaboration.{BodiesMet as TheBodiesMet, captured_count};
@@ -16,7 +16,7 @@ ghost use Rattle.je_core.specs.View.{class_view};
 ghost use Rattle.je_typing.specs.Answers.{IsFault};
 ghost use Rattle.je_typing.specs.Judged.{gives};
 ghost use Rattle.known_classes.specs.Known.{captured_seen, round_seen};
-ghost use Rattle.met_in_bodies.specs.Seen.{met_seen};
+ghost use Rattle.body_walks.specs.Seen.{met_seen};
 ghost use Rattle.method_candidates.specs.TableView.{HasMethods};
 ghost use Rattle.source_subtypes.specs.View.{heads_of};
 ghost use Rattle.type_faults.specs.Program.{source_in};

@@ -25,7 +25,7 @@ use Rattle.typed_nodes.specs.declared.typed.TypedExpr.{TypedExpr}
 use Rattle.typed_nodes.specs.Seen.{seen}
 use Rattle.body_scopes.specs.View.{scope_seen}
 use Rattle.body_scopes.specs.declared.scope.Scope.{Scope}
-use Rattle.body_walks.specs.Seen.{known_in, program_in}
+use Rattle.body_walks.specs.Walks.{known_in, program_in}
 use Rattle.body_walks.specs.declared.bodies.Bodies.{Bodies}
 use Rattle.type_expr.specs.way.Calls.{called_on}
 use Rattle.type_expr.specs.Walk.{elements_behind, expression_in, value_in}

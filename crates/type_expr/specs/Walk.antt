@@ -13,7 +13,7 @@ use Rattle.body_typing.specs.Expressions as words
 use Rattle.body_typing.specs.Expressions.{Purpose}
 use Rattle.body_scopes.specs.View.{scope_seen}
 use Rattle.body_scopes.specs.declared.scope.Scope.{Scope}
-use Rattle.body_walks.specs.Seen.{known_in, program_in}
+use Rattle.body_walks.specs.Walks.{known_in, program_in}
 use Rattle.body_walks.specs.declared.bodies.Bodies.{Bodies}
 
 -- an expression, by what it is for

@@ -7,7 +7,7 @@ ghost use Rattle.je_typing.specs.Judged.{gives};
 ghost use Rattle.body_typing.specs.Expressions.{assign_step, assigned_by};
 ghost use Rattle.body_scopes.specs.View.{scope_seen};
 ghost use Rattle.typed_nodes.specs.Seen.{seen};
-ghost use Rattle.body_walks.specs.Seen.{known_in, program_in};
+ghost use Rattle.body_walks.specs.Walks.{known_in, program_in};
 
 use array_making::Part;
 use assignment_steps::{assignment, compound};

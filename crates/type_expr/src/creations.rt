@@ -9,7 +9,7 @@ ghost use Rattle.name_types.specs.View.{shown};
 ghost use Rattle.body_typing.specs.Expressions.{anonymous_at, anonymous_type as the_anonymous_type, class_or_zero as the_class_or_zero, name_span as the_name_span};
 ghost use Rattle.body_scopes.specs.View.{scope_seen};
 ghost use Rattle.typed_nodes.specs.Seen.{seen};
-ghost use Rattle.body_walks.specs.Seen.{known_in, program_in};
+ghost use Rattle.body_walks.specs.Walks.{known_in, program_in};
 
 use body_scopes::Scope;
 use body_type_steps::anonymous_type;

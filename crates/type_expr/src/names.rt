@@ -11,7 +11,7 @@ ghost use Rattle.body_scopes.specs.View.{scope_seen};
 ghost use Rattle.qualified_steps.specs.Qualifiers.{qualifier_seen};
 ghost use Rattle.typed_nodes.specs.Seen.{seen};
 ghost use Rattle.type_expr.specs.Seen.{purpose_seen};
-ghost use Rattle.body_walks.specs.Seen.{known_in, program_in};
+ghost use Rattle.body_walks.specs.Walks.{known_in, program_in};
 
 use crate::purpose::Purpose;
 use access_steps::super_field;

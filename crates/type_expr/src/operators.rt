@@ -11,7 +11,7 @@ ghost use Rattle.body_typing.specs.Expressions.{negative_literal as the_negative
 ghost use Rattle.body_scopes.specs.View.{scope_seen};
 ghost use Rattle.typed_nodes.specs.Seen.{seen};
 ghost use Rattle.type_expr.specs.Seen.{purpose_seen};
-ghost use Rattle.body_walks.specs.Seen.{known_in, program_in};
+ghost use Rattle.body_walks.specs.Walks.{known_in, program_in};
 
 use crate::assignments::counted;
 use crate::purpose::Purpose;

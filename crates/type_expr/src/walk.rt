@@ -11,7 +11,7 @@ ghost use Rattle.name_types.specs.View.{shown};
 ghost use Rattle.body_typing.specs.Expressions.{element_or as the_element_or, initial, outer as the_outer, read};
 ghost use Rattle.array_making.specs.Parts.{part_seen};
 ghost use Rattle.body_scopes.specs.View.{scope_seen};
-ghost use Rattle.body_walks.specs.Seen.{HasAllMethods, known_in, program_in};
+ghost use Rattle.body_walks.specs.Walks.{HasAllMethods, known_in, program_in};
 ghost use Rattle.qualified_steps.specs.Qualifiers.{qualifier_seen};
 ghost use Rattle.typed_nodes.specs.Seen.{seen};
 ghost use Rattle.type_expr.specs.Seen.{purpose_seen};

@@ -1,6 +1,6 @@
 use Rattle.std.proofs.Common.{◌≡◌, ◌+◌, ◌++◌, ◌∷◌, [], take, map, ap, arith}
 use Rattle.body_places.specs.View.{program_seen}
-use Rattle.met_in_bodies.specs.Seen.{met_seen}
+use Rattle.body_walks.specs.Seen.{met_seen}
 use Rattle.capturing.proofs.Ends.{map-take-more}
 use Rattle.capturing.proofs.Gained.{direct_none, direct_one}
 use Rattle.capturing.proofs.Heard.{names_nothing}

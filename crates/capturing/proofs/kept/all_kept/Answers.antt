@@ -1,6 +1,6 @@
 use Rattle.std.proofs.Common.{◌<◌, List, map, subst, ◌∙◌, arith, inl}
 use Rattle.body_places.specs.View.{program_seen}
-use Rattle.met_in_bodies.specs.Seen.{met_seen}
+use Rattle.body_walks.specs.Seen.{met_seen}
 use Rattle.capturing.specs.declared.kept.Kept.{Kept}
 use Rattle.capturing.specs.way.Kept.{Gains, IsDirect}
 use Rattle.capturing.proofs.Rounds.{next_round, rounds_begin, rounds_done, rounds_stop}

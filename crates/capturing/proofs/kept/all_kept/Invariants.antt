@@ -1,6 +1,6 @@
 use Rattle.std.proofs.Common.{map}
 use Rattle.body_places.specs.View.{program_seen}
-use Rattle.met_in_bodies.specs.Seen.{met_seen}
+use Rattle.body_walks.specs.Seen.{met_seen}
 use Rattle.capturing.specs.way.Kept.{IsSoFar}
 use Rattle.capturing.proofs.kept.all_kept.Given as goal
 

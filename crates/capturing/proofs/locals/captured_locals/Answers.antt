@@ -1,7 +1,7 @@
 use Rattle.std.specs.Prelude.{map}
 use Rattle.body_places.specs.View.{program_seen}
 use Rattle.known_classes.specs.Known.{round_seen}
-use Rattle.met_in_bodies.specs.Seen.{met_seen}
+use Rattle.body_walks.specs.Seen.{met_seen}
 use Rattle.capturing.proofs.Ordered.{all_captured}
 use Rattle.capturing.proofs.locals.captured_locals.Goals as goal
 

@@ -1,5 +1,5 @@
 use Rattle.std.proofs.Common.{◌≡◌, ◌+◌, ◌++◌, ◌∷◌, [], take, map, ap, arith}
-use Rattle.met_in_bodies.specs.Seen.{met_seen}
+use Rattle.body_walks.specs.Seen.{met_seen}
 use Rattle.capturing.proofs.Ends.{map-take-more}
 use Rattle.capturing.proofs.Heard.{makes_nothing}
 use Rattle.capturing.proofs.Near.{maker_none, maker_one}

@@ -1,5 +1,5 @@
 use Rattle.std.proofs.Common.{take, map}
-use Rattle.met_in_bodies.specs.Seen.{met_seen}
+use Rattle.body_walks.specs.Seen.{met_seen}
 use Rattle.capturing.specs.way.Users.{Adds, IsMaker}
 use Rattle.capturing.proofs.users.add_makers.Given as goal
 

@@ -1,6 +1,6 @@
 use Rattle.std.proofs.Common.{◌∙◌, map}
 use Rattle.body_places.specs.View.{program_seen}
-use Rattle.met_in_bodies.specs.Seen.{met_seen}
+use Rattle.body_walks.specs.Seen.{met_seen}
 use Rattle.capturing.proofs.Near.{are_users}
 use Rattle.capturing.proofs.users.all_users.Goals as goal
 

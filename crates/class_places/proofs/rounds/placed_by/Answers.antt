@@ -1,7 +1,7 @@
 use Rattle.std.proofs.Common.{length, map, ap, ◌∙◌}
 use Rattle.name_sites.specs.View.{source_of}
 use Rattle.class_typing.specs.Places.{met_at}
-use Rattle.met_in_bodies.specs.Seen.{met_seen}
+use Rattle.body_walks.specs.Seen.{met_seen}
 use Rattle.class_places.proofs.Outwards.{stands_within}
 use Rattle.class_places.proofs.rounds.placed_by.Goals as goal
 

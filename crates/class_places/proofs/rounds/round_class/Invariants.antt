@@ -2,7 +2,7 @@ use Rattle.std.proofs.Common.{◌≡◌, ◌++◌, map}
 use Rattle.name_sites.specs.View.{source_of}
 use Rattle.body_places.specs.Places.{frame_seen}
 use Rattle.class_typing.specs.Places.{frames_met, round_class}
-use Rattle.met_in_bodies.specs.Seen.{met_seen}
+use Rattle.body_walks.specs.Seen.{met_seen}
 use Rattle.class_places.proofs.rounds.round_class.Given as goal
 
 abbrev pub invariant-loop-round : goal.invariant-loop-round

@@ -6,7 +6,7 @@ use Rattle.name_lookup.proofs.Tables.{push-each}
 use Rattle.known_classes.specs.Known.{round_seen}
 use Rattle.body_places.specs.Tables as tables
 use Rattle.body_places.specs.Tables.{constant_in}
-use Rattle.body_walks.specs.Seen.{program_in}
+use Rattle.body_walks.specs.Walks.{program_in}
 use Rattle.class_typing.specs.ConstantFields.{unwritten}
 use Rattle.field_values.specs.Values.{values_in}
 use Rattle.type_decl.specs.way.Asked.{is_asked}

@@ -6,7 +6,7 @@ use Rattle.source_types.specs.Erasure.{class_numbered}
 use Rattle.known_classes.specs.Known.{round_seen}
 use Rattle.body_places.specs.declared.tables.Constant.{Constant}
 use Rattle.body_places.specs.Tables.{constant_in}
-use Rattle.body_walks.specs.Seen.{program_in}
+use Rattle.body_walks.specs.Walks.{program_in}
 use Rattle.class_typing.specs.ConstantFields.{unwritten}
 use Rattle.field_values.specs.declared.values.FieldValue.{FieldValue}
 use Rattle.field_values.specs.Values.{value_seen, values_in}

@@ -5,7 +5,7 @@ use Rattle.name_lookup.proofs.Tables.{push-each}
 use Rattle.name_sites.specs.View.{source_of}
 use Rattle.known_classes.specs.Known.{frames_in}
 use Rattle.class_typing.specs.Places.{round_met}
-use Rattle.met_in_bodies.specs.Seen.{met_seen}
+use Rattle.body_walks.specs.Seen.{met_seen}
 use Rattle.type_decl.proofs.Past.{all_round}
 use Rattle.type_decl.proofs.told.all_rounds.Goals as goal
 

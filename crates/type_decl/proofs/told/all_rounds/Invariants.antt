@@ -3,7 +3,7 @@ use Rattle.std.specs.Prelude.{slice_get}
 use Rattle.name_sites.specs.View.{source_of}
 use Rattle.known_classes.specs.Known.{frames_in}
 use Rattle.class_typing.specs.Places.{round_met}
-use Rattle.met_in_bodies.specs.Seen.{met_seen}
+use Rattle.body_walks.specs.Seen.{met_seen}
 use Rattle.type_decl.proofs.told.all_rounds.Given as goal
 
 abbrev pub invariant-loop-at : goal.invariant-loop-at

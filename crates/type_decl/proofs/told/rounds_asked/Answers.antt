@@ -6,7 +6,7 @@ use Rattle.name_sites.specs.View.{source_of}
 use Rattle.known_classes.specs.Known.{frames_in}
 use Rattle.class_typing.specs.Places.{round_met}
 use Rattle.type_decl.specs.way.Asked.{is_asked}
-use Rattle.met_in_bodies.specs.Seen.{met_seen}
+use Rattle.body_walks.specs.Seen.{met_seen}
 use Rattle.type_decl.proofs.Past.{asked_rounds}
 use Rattle.type_decl.proofs.told.rounds_asked.Goals as goal
 

@@ -5,7 +5,7 @@ use Rattle.class_typing.specs.Elaboration.{first_program, hidden_count, nothing_
 use Rattle.class_typing.specs.Places.{round_met}
 use Rattle.type_decl.specs.way.Asked.{is_asked}
 use Rattle.known_classes.specs.Known.{round_seen}
-use Rattle.met_in_bodies.specs.Seen.{met_seen}
+use Rattle.body_walks.specs.Seen.{met_seen}
 use Rattle.name_sites.specs.View.{source_of}
 use Rattle.type_decl.proofs.Asking.{same_constants}
 use Rattle.type_decl.proofs.told.told.Goals as goal

@@ -14,7 +14,7 @@ use Rattle.class_typing.specs.Programs.{library_count}
 use Rattle.declarations.specs.View.{class_shown}
 use Rattle.field_values.specs.Values.{count_at}
 use Rattle.known_classes.specs.Known.{captured_seen, round_seen}
-use Rattle.met_in_bodies.specs.Seen.{met_seen}
+use Rattle.body_walks.specs.Seen.{met_seen}
 use Rattle.name_sites.specs.View.{source_of}
 use Rattle.source_subtypes.specs.View.{heads_of}
 use Rattle.type_faults.specs.Program.{source_in}

@@ -1,6 +1,6 @@
 use Rattle.std.proofs.Common.{Some, ℕ, length, set, refl, sym, ◌∙◌, ap}
 use Rattle.std.proofs.lemmas.Option.{slice_get_read}
-use Rattle.met_in_bodies.specs.Seen.{met_seen}
+use Rattle.body_walks.specs.Seen.{met_seen}
 use Rattle.name_sites.specs.Number.{number_in}
 use Rattle.class_places.proofs.Telling.{is_told, stays_told}
 use Rattle.class_places.proofs.first.Stands.add.Goals as goal

@@ -1,5 +1,5 @@
 use Rattle.std.proofs.Common.{ℕ, map, take}
-use Rattle.met_in_bodies.specs.Seen.{met_seen}
+use Rattle.body_walks.specs.Seen.{met_seen}
 use Rattle.class_places.specs.First.{AreFirst}
 use Rattle.class_places.proofs.first.Stands.add_all.Given as goal
 

@@ -1,5 +1,5 @@
 use Rattle.std.proofs.Common.{map, sym, ◌∙◌}
-use Rattle.met_in_bodies.specs.Seen.{met_seen}
+use Rattle.body_walks.specs.Seen.{met_seen}
 use Rattle.class_places.proofs.Telling.{first_met, nothing_met}
 use Rattle.class_places.proofs.first.Stands.first.Goals as goal
 

@@ -9,14 +9,14 @@ ghost use Rattle.body_typing.specs.Bodies.{local_met, met_by, met_in_expression}
 ghost use Rattle.body_places.specs.View.{program_seen};
 ghost use Rattle.body_scopes.specs.View.{scope_seen};
 ghost use Rattle.variable_steps.specs.Variables.{variable_seen};
-ghost use Rattle.met_in_bodies.specs.Seen.{met_seen};
+ghost use Rattle.body_walks.specs.Seen.{met_seen};
 
+use crate::bodies::Bodies;
 use crate::keeping::standing;
 use crate::met::Met;
 use body_places::{Program, class_outwards};
 use body_scopes::Scope;
 use body_type_steps::body_meaning;
-use body_walks::Bodies;
 use je_ast::{Expr, Identifier, TyName};
 use je_base::{Memory, Span};
 use name_lookup::Look;

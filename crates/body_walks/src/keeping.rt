@@ -4,7 +4,7 @@ ghost use Rattle.std.specs.Prelude.{◌≡◌, IfOk, map, option_map};
 ghost use Rattle.body_places.specs.Places.{frame_seen, local_seen};
 ghost use Rattle.body_places.specs.Tables.{constant_seen};
 ghost use Rattle.body_scopes.specs.View.{scope_seen};
-ghost use Rattle.met_in_bodies.specs.Standings.{standing_seen};
+ghost use Rattle.body_walks.specs.Standings.{standing_seen};
 
 use crate::met::Standing;
 use body_places::{Constant, Frame, LocalVariable};

@@ -2,7 +2,7 @@
 use Rattle.std.specs.Prelude.{map}
 use Rattle.body_typing.specs.FinalVariables.{Scope}
 use Rattle.body_places.specs.Places.{frame_seen}
-use Rattle.met_in_bodies.specs.declared.met.Standing.{Standing}
+use Rattle.body_walks.specs.declared.met.Standing.{Standing}
 
 abbrev pub standing_seen : Standing → Scope
 standing_seen s = record {

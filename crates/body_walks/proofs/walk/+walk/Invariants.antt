@@ -5,8 +5,8 @@ use Rattle.body_typing.specs.Mentions.{all_mentions}
 use Rattle.body_typing.specs.Bodies.{met_by}
 use Rattle.body_places.specs.View.{program_seen}
 use Rattle.body_scopes.specs.View.{scope_seen}
-use Rattle.met_in_bodies.specs.Seen.{met_seen}
-use Rattle.met_in_bodies.proofs.walk.+walk.Given as goal
+use Rattle.body_walks.specs.Seen.{met_seen}
+use Rattle.body_walks.proofs.walk.+walk.Given as goal
 
 abbrev pub invariant-add_all_met-loop-expr : goal.invariant-add_all_met-loop-expr
 invariant-add_all_met-loop-expr l =

@@ -1,6 +1,6 @@
 use Rattle.std.proofs.Common.{◌≡◌, map, take}
 use Rattle.body_places.specs.Places.{frame_seen}
-use Rattle.met_in_bodies.proofs.keeping.copied_frames.Given as goal
+use Rattle.body_walks.proofs.keeping.copied_frames.Given as goal
 
 abbrev pub invariant-loop-frame : goal.invariant-loop-frame
 invariant-loop-frame l = map frame_seen l.copies.items ≡ map frame_seen (take l.frame-index l.frames)
