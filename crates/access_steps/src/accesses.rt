@@ -19,9 +19,9 @@ ghost use Rattle.access_steps.specs.way.Selecting.{form_selected};
 
 use array_steps::length_of;
 use body_places::{
-    Place, Program, Selected, constant_of, field_in, found_field, is_instance, this_node, uses_for,
+    Found, Place, Program, Selected, constant_of, field_in, found_field, is_instance, this_node,
+    type_seen, uses_for,
 };
-use field_lookup::{Found, type_seen};
 use je_ast::Identifier;
 use je_base::{Memory, Span};
 use je_core::{Base, ClassId, Expr, Mark, make_field, make_static};

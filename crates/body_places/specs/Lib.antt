@@ -1,3 +1,4 @@
+pub mod way
 pub mod Tables
 pub mod Places
 pub mod View

@@ -15,13 +15,15 @@ ghost use Rattle.name_walk.specs.View.{written_view};
 ghost use Rattle.body_places.specs.Selected.{IsSmall, selected_seen};
 ghost use Rattle.body_places.specs.View.{program_seen};
 
+use crate::declared::field_at;
+use crate::found::find_field;
 use crate::program::Program;
 use declarations::FieldDecl;
-use field_lookup::{Found, field_at, find_field};
 use je_ast::Identifier;
 use je_base::{Memory, Span};
 use je_core::{Access, ClassId, Use};
 use je_typing::{Refusal, TypeFault, TypeRule, check};
+use member_lookup::Found;
 use name_types::SrcTy;
 use name_walk::Written;
 

@@ -4,9 +4,9 @@ ghost use Rattle.std.specs.Prelude.{◌≡◌};
 ghost use Rattle.body_places.specs.Tables.{field_from};
 ghost use Rattle.body_places.specs.View.{program_seen};
 
+use crate::declared::fields_of;
 use crate::program::Program;
 use crate::tables::Captured;
-use field_lookup::fields_of;
 use je_core::ClassId;
 
 fn field_among(fields: &[Captured], past: u32, owner: ClassId, local: u32) -> u32

@@ -13,8 +13,7 @@ ghost use Rattle.body_scopes.specs.View.{blank_seen, scope_seen};
 
 use crate::blank::is_blank;
 use crate::scope::Scope;
-use body_places::Program;
-use field_lookup::field_at;
+use body_places::{Program, field_at};
 use fit_nodes::is_this;
 use je_base::Span;
 use je_core::{ClassId, Expr, Form};

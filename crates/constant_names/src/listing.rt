@@ -9,9 +9,8 @@ ghost use Rattle.body_places.specs.Tables.{constant_at};
 ghost use Rattle.class_typing.specs.Elaboration.{is_constant as the_is_constant};
 ghost use Rattle.signature_steps.specs.View.{is_among};
 
-use body_places::{Constant, constant_of};
+use body_places::{Constant, constant_of, fields_of};
 use class_heads::AllClasses;
-use field_lookup::fields_of;
 use je_base::Memory;
 use je_core::ClassId;
 use name_faults::Met;

@@ -14,10 +14,9 @@ ghost use Rattle.program_tables.specs.way.Places.{places_from};
 
 use crate::hidden::outer_count;
 use crate::layout::Layout;
-use body_places::{Captured, Program};
+use body_places::{Captured, Program, fields_of};
 use class_heads::AllClasses;
 use core_making::counted;
-use field_lookup::fields_of;
 use je_base::Memory;
 use je_core::ClassId;
 use known_classes::CapturedLocal;

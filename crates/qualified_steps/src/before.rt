@@ -18,8 +18,7 @@ ghost use Rattle.qualified_steps.specs.way.Behind.{member_named, static_value_be
 use crate::classes::class_named;
 use crate::qualifier::Qualifier;
 use access_steps::{member_of_value, static_field, static_value};
-use body_places::{Place, Program};
-use field_lookup::{Found, find_field};
+use body_places::{Found, Place, Program, find_field};
 use header_steps::own_type;
 use je_ast::Identifier;
 use je_base::{Memory, Span};

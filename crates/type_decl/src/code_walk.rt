@@ -18,11 +18,11 @@ ghost use Rattle.type_decl.specs.way.Walked.{made as the_made};
 
 use crate::member_walk::members;
 use crate::walk::{AllMet, Walk, alloc};
+use body_places::fields_of;
 use class_bridges::bridges;
 use class_methods::Hierarchy;
 use core_making::{Making, Parts, core_class, counted};
 use declarations::FieldDecl;
-use field_lookup::fields_of;
 use field_values::count_of;
 use je_base::Memory;
 use je_core::{Class, ClassId};

@@ -10,8 +10,8 @@ ghost use Rattle.typed_nodes.specs.Seen.{seen};
 ghost use Rattle.member_forms.specs.Seen.{members_seen};
 ghost use Rattle.type_decl.specs.way.Walks.{initial_value as the_initial_value, initialized as the_initialized, variable as the_variable, variables as the_variables};
 
+use body_places::field_at;
 use declarations::FieldDecl;
-use field_lookup::field_at;
 use je_ast::{Expr, Identifier, Var};
 use je_typing::Refusal;
 use member_forms::{

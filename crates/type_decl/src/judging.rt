@@ -13,12 +13,11 @@ ghost use Rattle.field_values.specs.Values.{value_seen};
 ghost use Rattle.type_decl.specs.way.Asked.{is_asked};
 ghost use Rattle.type_decl.specs.way.Rows.{constant_due};
 
-use body_places::{Constant, Frame, Initializer, Program};
+use body_places::{Constant, Frame, Initializer, Program, field_at};
 use body_scopes::Scope;
 use body_walks::Bodies;
 use call_steps::Calls;
 use declarations::FieldDecl;
-use field_lookup::field_at;
 use field_values::FieldValue;
 use je_ast::Expr;
 use je_base::Memory;

@@ -16,10 +16,9 @@ ghost use Rattle.type_decl.specs.way.Rows.{constant_due, fields_declared, next_s
 
 use crate::judging::{Fields, asks, constants_by, judged_by};
 use crate::rows::{are_settled, put};
-use body_places::{Constant, Frame};
+use body_places::{Constant, Frame, fields_of};
 use body_walks::Bodies;
 use class_heads::AllClasses;
-use field_lookup::fields_of;
 use field_values::FieldValue;
 use je_base::Memory;
 use je_core::ClassId;

@@ -7,8 +7,7 @@ ghost use Rattle.body_places.specs.Places.{frame_seen, local_seen, place_seen};
 ghost use Rattle.variable_steps.specs.Variables.{is_no_variable, variable_seen};
 ghost use Rattle.body_places.specs.View.{program_seen};
 
-use body_places::{Frame, LocalVariable, Place, Program};
-use field_lookup::{Found, find_field};
+use body_places::{Found, Frame, LocalVariable, Place, Program, find_field};
 use header_steps::own_type;
 use je_base::{Memory, NameId};
 use je_core::ClassId;

@@ -19,10 +19,9 @@ use crate::finding::{Variable, variable_named};
 use crate::values::constant_or;
 use body_places::{
     Initializer, LocalVariable, Place, Program, Selected, captured_of, class_outwards, constant_of,
-    has_instance, instance_node, need_field, this_node, uses_for,
+    field_at, has_instance, instance_node, need_field, this_node, type_seen, uses_for,
 };
 use declarations::FieldDecl;
-use field_lookup::{field_at, type_seen};
 use header_steps::own_type;
 use je_ast::Identifier;
 use je_base::{Memory, Span};

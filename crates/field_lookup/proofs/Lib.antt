@@ -1,4 +1,0 @@
-pub mod Objects
-pub mod Joining
-pub mod Levels
-pub mod OneList
