@@ -1,2 +1,10 @@
+pub mod Ends
+pub mod Using
+pub mod Near
+pub mod Ways
+pub mod Gained
+pub mod UserRounds
+pub mod Ordered
+pub mod Heard
 pub mod Outwards
 pub mod Telling

@@ -12,7 +12,7 @@ use Rattle.std.proofs.lemmas.Option.{slice_get_past, slice_get_within}
 use Rattle.je_classes.proofs.Lists.{bool_cases}
 use Rattle.body_typing.specs.Bodies.{Met}
 use Rattle.class_typing.specs.Places.{class_standing, same_number, stands_at}
-use Rattle.capturing.proofs.Using.{get-set-other, get-set-same, length-set-same}
+use Rattle.class_places.proofs.Using.{get-set-other, get-set-same, length-set-same}
 use Rattle.class_places.specs.declared.first.Stands.{Stands}
 use Rattle.class_places.specs.First.{AreFirst, place_in, place_of}
 

@@ -1,2 +1,2 @@
-pub mod First
 pub mod way
+pub mod First

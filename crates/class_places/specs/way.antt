@@ -1,2 +1,5 @@
--- What only proofs and private functions cite.
+-- What only private functions and proofs cite.
+pub mod Users
+pub mod Kept
+pub mod Locals
 pub mod Rounds

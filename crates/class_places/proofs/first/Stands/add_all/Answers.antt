@@ -2,7 +2,7 @@ use Rattle.std.proofs.Common.{List, map, take, subst, sym, arith}
 use Rattle.std.proofs.lemmas.Grind.{common_steps}
 use Rattle.body_typing.specs.Bodies.{Met}
 use Rattle.body_walks.specs.Seen.{met_seen}
-use Rattle.capturing.proofs.Ends.{map-take-more}
+use Rattle.class_places.proofs.Ends.{map-take-more}
 use Rattle.class_places.specs.First.{AreFirst}
 use Rattle.class_places.proofs.first.Stands.add_all.Goals as goal
 

@@ -1,6 +1,0 @@
-use Rattle.capturing.specs.way.Users.{users_of}
-use Rattle.capturing.proofs.users.Users.none.Goals as goal
-
-pub returns-clause-empty : goal.returns-clause-empty
-unfolding users_of
-returns-clause-empty c = c.loop.invariant.empty

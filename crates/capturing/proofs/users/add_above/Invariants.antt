@@ -1,7 +1,0 @@
-use Rattle.std.proofs.Common.{take, map}
-use Rattle.name_types.specs.View.{shown}
-use Rattle.capturing.specs.way.Users.{Adds, IsUnder}
-use Rattle.capturing.proofs.users.add_above.Given as goal
-
-abbrev pub invariant-loop-ty : goal.invariant-loop-ty
-invariant-loop-ty l = Adds (IsUnder (map shown (take l.ty-index l.types)) l.class.0) l.initial.users l.users

@@ -1,6 +1,0 @@
-use Rattle.body_places.specs.View.{program_seen}
-use Rattle.capturing.specs.way.Users.{Adds, IsBelow}
-use Rattle.capturing.proofs.users.add_below.Given as goal
-
-abbrev pub invariant-loop-at : goal.invariant-loop-at
-invariant-loop-at l = Adds (IsBelow (program_seen l.program) l.at) l.initial.users l.users

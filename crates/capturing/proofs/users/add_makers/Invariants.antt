@@ -1,7 +1,0 @@
-use Rattle.std.proofs.Common.{take, map}
-use Rattle.body_walks.specs.Seen.{met_seen}
-use Rattle.capturing.specs.way.Users.{Adds, IsMaker}
-use Rattle.capturing.proofs.users.add_makers.Given as goal
-
-abbrev pub invariant-loop-one : goal.invariant-loop-one
-invariant-loop-one l = Adds (IsMaker (map met_seen (take l.one-index l.met))) l.initial.users l.users

@@ -1,6 +1,0 @@
-use Rattle.body_places.specs.View.{program_seen}
-use Rattle.capturing.specs.way.Users.{Adds, IsRound}
-use Rattle.capturing.proofs.users.add_round.Given as goal
-
-abbrev pub invariant-loop-at : goal.invariant-loop-at
-invariant-loop-at l = Adds (IsRound (program_seen l.program) l.at) l.initial.users l.users
