@@ -2,7 +2,7 @@
 use Rattle.name_typing.specs.Program.{Program}
 use Rattle.class_heads.specs.View.{classes_of}
 use Rattle.source_subtypes.specs.View.{heads_of}
-use Rattle.method_candidates.specs.TableView.{HasMethods}
+use Rattle.call_steps.specs.TableView.{HasMethods}
 use Rattle.body_typing.specs.Expressions.{Known}
 use Rattle.body_places.specs.View.{program_seen}
 use Rattle.known_classes.specs.Known.{known_seen}

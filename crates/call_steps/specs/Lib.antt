@@ -1,2 +1,5 @@
-pub mod Receivers
+pub mod Made
+pub mod Called
 pub mod way
+pub mod TableView
+pub mod Receivers

@@ -6,7 +6,7 @@ ghost use Rattle.class_heads.specs.View.{classes_of};
 ghost use Rattle.header_typing.specs.Supers.{own_type as the_own_type};
 ghost use Rattle.je_typing.specs.Answers.{IsFault};
 ghost use Rattle.je_typing.specs.Judged.{gives};
-ghost use Rattle.method_candidates.specs.TableView.{HasMethods};
+ghost use Rattle.call_steps.specs.TableView.{HasMethods};
 ghost use Rattle.name_typing.specs.Accesses.{superclass_of as the_superclass_of};
 ghost use Rattle.overloads.specs.View.{candidate_seen};
 ghost use Rattle.source_subtypes.specs.View.{heads_of};
@@ -17,8 +17,8 @@ ghost use Rattle.qualified_steps.specs.Qualifiers.{qualifier_seen};
 ghost use Rattle.call_steps.specs.Receivers.{receiver_seen};
 
 use crate::calls::{Calls, chosen_method};
+use crate::nodes::{call_on as called_on, exact_call};
 use body_places::{Place, is_instance, this_node};
-use call_parts::{call_on as called_on, exact_call};
 use header_steps::own_type;
 use je_ast::Identifier;
 use je_base::Span;

@@ -6,7 +6,7 @@ ghost use Rattle.call_typing.specs.Constructors.{constructor_for as the_construc
 ghost use Rattle.class_heads.specs.View.{classes_of};
 ghost use Rattle.je_typing.specs.Answers.{IsFault};
 ghost use Rattle.je_typing.specs.Judged.{gives};
-ghost use Rattle.method_candidates.specs.TableView.{HasMethods};
+ghost use Rattle.call_steps.specs.TableView.{HasMethods};
 ghost use Rattle.name_types.specs.View.{shown};
 ghost use Rattle.overloads.specs.View.{candidate_seen};
 ghost use Rattle.source_subtypes.specs.View.{heads_of};
@@ -14,13 +14,14 @@ ghost use Rattle.typed_nodes.specs.Seen.{seen};
 ghost use Rattle.body_places.specs.Places.{place_seen};
 ghost use Rattle.body_places.specs.View.{program_seen};
 
+use crate::caller::Caller;
+use crate::choosing::{constructor_for, method_for};
+use crate::table::MethodTable;
 use body_places::{Place, Program};
-use call_parts::{Caller, constructor_for, method_for};
 use je_ast::Identifier;
 use je_base::Span;
 use je_core::ClassId;
 use je_typing::Refusal;
-use method_candidates::MethodTable;
 use name_types::SrcTy;
 use overloads::Candidate;
 use typed_nodes::TypedExpr;

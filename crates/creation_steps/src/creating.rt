@@ -14,14 +14,15 @@ ghost use Rattle.body_places.specs.Places.{place_seen};
 ghost use Rattle.body_places.specs.View.{program_seen};
 
 use body_places::{Place, Program};
-use call_parts::{CreationSpans, has_constructors, is_abstract, is_variable, made_of, new_object};
-use call_steps::{Calls, chosen_constructor};
+use call_steps::{
+    Calls, CreationSpans, chosen_constructor, default_place, has_constructors, is_abstract,
+    is_variable, made_of, new_object,
+};
 use enclosing_instances::has_enclosing;
 use header_steps::own_type;
 use je_base::{Memory, Span};
 use je_core::{Capture, ClassId};
 use je_typing::{Refusal, TypeRule, check};
-use method_candidates::default_place;
 use name_types::SrcTy;
 use overloads::Candidate;
 use typed_nodes::TypedExpr;

@@ -14,8 +14,7 @@ ghost use Rattle.body_places.specs.Places.{place_seen};
 ghost use Rattle.body_places.specs.View.{program_seen};
 
 use body_places::{Place, this_node};
-use call_parts::head_call;
-use call_steps::{Calls, chosen_constructor};
+use call_steps::{Calls, chosen_constructor, head_call};
 use enclosing_instances::has_enclosing_round;
 use header_steps::own_type;
 use je_base::{Memory, Span};

@@ -31,8 +31,7 @@ use body_places::this_node;
 use body_scopes::Scope;
 use body_type_steps::anonymous_type;
 use body_walks::{Standing, copied_frame};
-use call_parts::made_of;
-use call_steps::chosen_constructor;
+use call_steps::{chosen_constructor, default_constructor as default_candidate, made_of};
 use creation_steps::implicit_constructor_call;
 use declarations::MethodDecl;
 use fit_parts::of;
@@ -43,7 +42,6 @@ use je_core::{
     make_local,
 };
 use je_typing::Refusal;
-use method_candidates::default_constructor as default_candidate;
 use name_types::SrcTy;
 use name_walk::Context;
 use overloads::Candidate;

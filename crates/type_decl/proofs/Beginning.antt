@@ -22,8 +22,8 @@ use Rattle.field_values.specs.Values.{count_at}
 use Rattle.known_classes.specs.declared.known.CapturedLocal.{CapturedLocal as HeldLocal}
 use Rattle.known_classes.specs.Known.{captured_local_seen, captured_seen}
 use Rattle.class_heads.specs.View.{classes_of}
-use Rattle.method_candidates.specs.TableView.{HasMethods}
-use Rattle.method_candidates.specs.declared.table.MethodTable.{MethodTable}
+use Rattle.call_steps.specs.TableView.{HasMethods}
+use Rattle.call_steps.specs.declared.table.MethodTable.{MethodTable}
 use Rattle.source_subtypes.specs.View.{heads_of}
 use Rattle.type_faults.specs.Program.{source_in}
 use Rattle.declarations.specs.Declarations.{DeclaredClass}

@@ -15,7 +15,7 @@ ghost use Rattle.known_classes.specs.Known.{captured_seen};
 ghost use Rattle.library_classes.specs.Library.{all_due};
 ghost use Rattle.library_classes.specs.Numbers.{number_in};
 ghost use Rattle.body_walks.specs.Seen.{met_seen};
-ghost use Rattle.method_candidates.specs.TableView.{HasMethods};
+ghost use Rattle.call_steps.specs.TableView.{HasMethods};
 ghost use Rattle.signature_steps.specs.View.{is_among};
 ghost use Rattle.source_subtypes.specs.View.{heads_of};
 ghost use Rattle.type_faults.specs.Program.{source_in};
@@ -29,7 +29,7 @@ use crate::told::{FirstWalk, all_rounds, constants_before};
 use crate::walk::{BodiesMet, Walk};
 use body_places::{Captured, Constant};
 use body_walks::Bodies;
-use call_steps::Calls;
+use call_steps::{Calls, MethodTable};
 use class_heads::AllClasses;
 use class_places::captured_locals;
 use constant_names::constant_names;
@@ -38,7 +38,6 @@ use je_base::Memory;
 use je_core::Class;
 use je_typing::Refusal;
 use known_classes::{CapturedLocal, Known};
-use method_candidates::MethodTable;
 use name_sites::Sites;
 use program_tables::{
     Layout, add_hidden_fields, captured_fields, plain_program, remove_hidden_fields,

@@ -14,7 +14,7 @@ ghost use Rattle.body_walks.specs.Walks.{known_in, program_in};
 use body_scopes::Scope;
 use body_type_steps::anonymous_type;
 use body_walks::Bodies;
-use call_parts::CreationSpans;
+use call_steps::CreationSpans;
 use creation_steps::{anonymous_creation, creation};
 use header_steps::class_of;
 use je_ast::TyName;

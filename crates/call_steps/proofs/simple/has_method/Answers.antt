@@ -3,7 +3,7 @@ use Rattle.overloads.specs.declared.candidate.Candidate.{Candidate}
 use Rattle.overloads.specs.View.{candidate_seen}
 use Rattle.overriding.specs.Methods.{Method}
 use Rattle.class_methods.specs.View.{arguments_seen}
-use Rattle.method_candidates.specs.TableView.{methods_at}
+use Rattle.call_steps.specs.TableView.{methods_at}
 use Rattle.call_typing.specs.Calls.{has_some}
 use Rattle.call_typing.specs.Methods.{named}
 use Rattle.call_steps.specs.way.Found.{any}
