@@ -10,7 +10,7 @@ use body_places::{Frame, Program};
 use je_ast::Identifier;
 use je_base::Memory;
 use name_lookup::{Look, Meaning};
-use qualified_steps::class_named;
+use name_steps::class_named;
 use type_faults::Program as Source;
 
 /// What the parts of a name mean in a body, and the classes that they name: the first part is a class in scope there,

@@ -8,7 +8,7 @@ ghost use Rattle.body_typing.specs.Mentions.{all_mentions, made, made_with_body,
 ghost use Rattle.body_typing.specs.Bodies.{local_met, met_by, met_in_expression};
 ghost use Rattle.body_places.specs.View.{program_seen};
 ghost use Rattle.body_scopes.specs.View.{scope_seen};
-ghost use Rattle.variable_steps.specs.Variables.{variable_seen};
+ghost use Rattle.name_steps.specs.Variables.{variable_seen};
 ghost use Rattle.body_walks.specs.Seen.{met_seen};
 
 use crate::bodies::Bodies;
@@ -20,7 +20,7 @@ use body_type_steps::body_meaning;
 use je_ast::{Expr, Identifier, TyName};
 use je_base::{Memory, Span};
 use name_lookup::Look;
-use variable_steps::{Variable, variable_named};
+use name_steps::{Variable, variable_named};
 
 // A local of a body further out, which is no constant.
 #[tactic(auto, using(crate::proofs::Further::further))]

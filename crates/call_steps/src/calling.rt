@@ -13,7 +13,7 @@ ghost use Rattle.source_subtypes.specs.View.{heads_of};
 ghost use Rattle.typed_nodes.specs.Seen.{seen};
 ghost use Rattle.body_places.specs.Places.{place_seen};
 ghost use Rattle.body_places.specs.View.{program_seen};
-ghost use Rattle.qualified_steps.specs.Qualifiers.{qualifier_seen};
+ghost use Rattle.name_steps.specs.Qualifiers.{qualifier_seen};
 ghost use Rattle.call_steps.specs.Receivers.{receiver_seen};
 
 use crate::calls::{Calls, chosen_method};
@@ -25,8 +25,8 @@ use je_base::Span;
 use je_core::ClassId;
 use je_typing::{Refusal, TypeFault, TypeRule, check};
 use member_values::{has_members, superclass_of};
+use name_steps::Qualifier;
 use overloads::Candidate;
-use qualified_steps::Qualifier;
 use typed_nodes::TypedExpr;
 
 /// What stands before the point of a call.

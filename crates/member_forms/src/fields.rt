@@ -32,13 +32,13 @@ use je_ast::{Expr, Identifier};
 use je_base::{Memory, Span};
 use je_core::{Expr as Node, Initializer, Mark, make_assign, make_field, make_static};
 use je_typing::Refusal;
+use name_steps::constant_or;
 use source_subtypes::{copied, erased};
 use statement_forms::{performed, variable_constant};
 use std::alloc::Global;
 use std::rc::Rc;
 use tree_spans::span;
 use typed_nodes::TypedExpr;
-use variable_steps::constant_or;
 
 // The type of a field, at a place of the text.
 fn field_mark(walk: ClassWalk, field: &FieldDecl, span: Span) -> Mark

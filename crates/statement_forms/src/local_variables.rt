@@ -20,7 +20,7 @@ use je_ast::Identifier;
 use je_base::{Memory, Span};
 use je_core::Expr;
 use je_typing::{Refusal, TypeRule, check};
-use variable_steps::typed_local;
+use name_steps::typed_local;
 
 /// Nothing where no other local of the name is in scope in its body, else LocalTwice, at the name.
 pub fn new_name(scope: &Scope, name: Identifier) -> Result<(), Refusal>

@@ -8,22 +8,23 @@ ghost use Rattle.je_typing.specs.Typed.{TypedNode};
 ghost use Rattle.name_typing.specs.Accesses.{super_field as the_super_field};
 ghost use Rattle.body_typing.specs.Expressions.{before, named_before as the_named_before, one_more, selected as the_selected, simple as the_simple, taken_for};
 ghost use Rattle.body_scopes.specs.View.{scope_seen};
-ghost use Rattle.qualified_steps.specs.Qualifiers.{qualifier_seen};
+ghost use Rattle.name_steps.specs.Qualifiers.{qualifier_seen};
 ghost use Rattle.typed_nodes.specs.Seen.{seen};
 ghost use Rattle.type_expr.specs.Seen.{purpose_seen};
 ghost use Rattle.body_walks.specs.Walks.{known_in, program_in};
 
 use crate::purpose::Purpose;
-use access_steps::super_field;
 use body_scopes::Scope;
 use body_walks::Bodies;
 use je_ast::{Expr, Identifier};
 use je_base::Span;
 use je_typing::Refusal;
 use member_values::taken;
-use qualified_steps::{Qualifier, assigned_select, name_before, select, select_before};
+use name_steps::{
+    Qualifier, assigned_name, assigned_select, name_before, select, select_before, simple_name,
+    super_field, updated_name,
+};
 use typed_nodes::TypedExpr;
-use variable_steps::{assigned_name, simple_name, updated_name};
 
 /// A simple name.
 pub fn simple(

@@ -7,8 +7,8 @@ use Rattle.name_typing.specs.Program.{Place}
 use Rattle.name_typing.specs.Qualified.{select_before}
 use Rattle.body_typing.specs.Expressions.{named_before}
 use Rattle.body_scopes.specs.View.{scope_seen}
-use Rattle.qualified_steps.specs.declared.qualifier.Qualifier.{Qualifier}
-use Rattle.qualified_steps.specs.Qualifiers.{qualifier_seen}
+use Rattle.name_steps.specs.declared.qualifier.Qualifier.{Qualifier}
+use Rattle.name_steps.specs.Qualifiers.{qualifier_seen}
 use Rattle.body_walks.specs.Walks.{known_in, program_in}
 use Rattle.type_expr.proofs.Before.{faults_at, first_faults, one_more_gives}
 use Rattle.type_expr.proofs.names.+names.Goals as goal

@@ -18,7 +18,7 @@ use Rattle.type_expr.proofs.Before.{value_faults, value_stands}
 use Rattle.type_expr.specs.Seen.{purpose_seen}
 use Rattle.body_scopes.specs.View.{scope_seen}
 use Rattle.body_walks.specs.Walks.{known_in, program_in}
-use Rattle.qualified_steps.specs.Qualifiers.{qualifier_seen}
+use Rattle.name_steps.specs.Qualifiers.{qualifier_seen}
 use Rattle.type_expr.proofs.Forms.{assign_is, call_on_faulty, call_on_gives, conditional_is, elements_are_made, no_type_known, third_faults}
 use Rattle.type_expr.proofs.Lists.{parts_begin, parts_end, parts_fault, parts_on, values_begin, values_end, values_fault, values_on}
 use Rattle.type_expr.specs.Walk.{before_in, expression_in, values_in}

@@ -1,3 +1,0 @@
-pub mod LocalClasses
-pub mod SimpleNames
-pub mod FullNames

@@ -1,2 +1,0 @@
-pub mod Qualifiers
-pub mod way

@@ -1,3 +1,0 @@
-pub mod Captured
-pub mod Readings
-pub mod Standing
