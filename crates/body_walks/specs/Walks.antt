@@ -5,7 +5,7 @@ use Rattle.source_subtypes.specs.View.{heads_of}
 use Rattle.call_steps.specs.TableView.{HasMethods}
 use Rattle.body_typing.specs.Expressions.{Known}
 use Rattle.body_places.specs.View.{program_seen}
-use Rattle.known_classes.specs.Known.{known_seen}
+use Rattle.core_making.specs.Known.{known_seen}
 use Rattle.body_walks.specs.declared.bodies.Bodies.{Bodies}
 
 abbrev pub program_in : Bodies → Program

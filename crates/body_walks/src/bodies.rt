@@ -5,7 +5,7 @@ ghost use Rattle.name_sites.specs.View.{source_of};
 
 use call_steps::Calls;
 use class_spots::ClassSpots;
-use known_classes::Known;
+use core_making::Known;
 
 /// The classes of a program where bodies are walked: what calls are judged by, what is known of all classes, and which
 /// class stands at a place of the text.

@@ -1,3 +1,4 @@
+pub mod Upwards
 pub mod Declared
 pub mod Heads
 pub mod HiddenFields

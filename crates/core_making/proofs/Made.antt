@@ -14,7 +14,7 @@ use Rattle.class_typing.specs.Bridges.{bridges}
 use Rattle.class_typing.specs.Classes.{core_class, declared_field, declared_from, declared_heads, heads_from, kind_in, written_fields}
 use Rattle.class_typing.specs.Members.{MembersDone}
 use Rattle.class_typing.specs.Programs.{CapturedLocal}
-use Rattle.known_classes.specs.Known.{captured_local_seen}
+use Rattle.core_making.specs.Known.{captured_local_seen}
 use Rattle.core_making.specs.declared.making.Parts.{Parts}
 use Rattle.core_making.specs.Parts.{IsMadeOf}
 use Rattle.core_making.specs.way.HiddenFields.{hidden_fields}

@@ -1,2 +1,3 @@
-pub mod Parts
+pub mod Known
 pub mod way
+pub mod Parts

@@ -8,7 +8,7 @@ use Rattle.class_typing.specs.Bridges.{bridges}
 use Rattle.class_typing.specs.Classes.{written_fields}
 use Rattle.class_typing.specs.Members.{MembersDone}
 use Rattle.class_typing.specs.Programs.{CapturedLocal}
-use Rattle.known_classes.specs.Known.{captured_local_seen}
+use Rattle.core_making.specs.Known.{captured_local_seen}
 use Rattle.core_making.specs.declared.making.Parts.{Parts}
 
 -- they are those of a class, of what each class captures and what the members of this one come to

@@ -9,7 +9,7 @@ ghost use Rattle.class_typing.specs.Programs as words;
 ghost use Rattle.class_typing.specs.Programs.{number as the_number};
 ghost use Rattle.body_places.specs.View.{program_seen};
 ghost use Rattle.declarations.specs.View.{field_shown};
-ghost use Rattle.known_classes.specs.Known.{captured_local_seen};
+ghost use Rattle.core_making.specs.Known.{captured_local_seen};
 ghost use Rattle.core_making.specs.Parts.{IsMadeOf};
 ghost use Rattle.core_making.specs.way.Made.{kind_of as the_kind_of, made as the_made};
 

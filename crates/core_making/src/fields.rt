@@ -4,10 +4,11 @@ ghost use Rattle.std.specs.Prelude.{◌≡◌, ◌++◌, IfOk, OnOk, drop, map, 
 ghost use Rattle.je_core.specs.View.{field_view, view, view_if};
 ghost use Rattle.declarations.specs.View.{field_shown};
 ghost use Rattle.body_places.specs.View.{program_seen};
-ghost use Rattle.known_classes.specs.Known.{captured_local_seen};
+ghost use Rattle.core_making.specs.Known.{captured_local_seen};
 ghost use Rattle.core_making.specs.way.HiddenFields.{captured_field, enum_fields, hidden, hidden_fields as the_hidden_fields, outer_fields};
 ghost use Rattle.core_making.specs.way.Made.{field_of, fields_from, next_field};
 
+use crate::known::CapturedLocal;
 use crate::making::Making;
 use crate::written::{enclosing, is_enum_sort, written_span};
 use body_places::Program;
@@ -15,7 +16,6 @@ use declarations::FieldDecl;
 use fit_parts::{of, string};
 use je_base::{Memory, NameId, Span};
 use je_core::{Access, Base, ClassId, Expr, Field, Ty};
-use known_classes::CapturedLocal;
 use source_subtypes::erased;
 use std::alloc::Global;
 use std::rc::Rc;

@@ -3,11 +3,11 @@
 ghost use Rattle.std.specs.Prelude.{◌≡◌};
 ghost use Rattle.name_sites.specs.View.{source_of};
 
+use crate::known::CapturedLocal;
 use body_places::Program;
 use declarations::FieldDecl;
 use je_base::Names;
 use je_core::{Bridge, Expr, Initializer, Method};
-use known_classes::CapturedLocal;
 
 /// The classes of a program, and the names that it is written with.
 #[derive(Clone, Copy)]

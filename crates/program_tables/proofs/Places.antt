@@ -12,8 +12,8 @@ use Rattle.body_places.specs.declared.tables.Captured.{Captured}
 use Rattle.class_typing.specs.Programs as words
 use Rattle.class_typing.specs.Programs.{captured_place, classes, is_of, outer_count, place_or, with_hidden}
 use Rattle.name_typing.specs.Fields.{fields_of}
-use Rattle.known_classes.specs.Known.{captured_local_seen, captured_seen}
-use Rattle.known_classes.specs.declared.known.CapturedLocal.{CapturedLocal}
+use Rattle.core_making.specs.Known.{captured_local_seen, captured_seen}
+use Rattle.core_making.specs.declared.known.CapturedLocal.{CapturedLocal}
 use Rattle.program_tables.specs.way.Places.{all_places, places_from}
 
 -- ---- the first of which a test holds, one element after the other

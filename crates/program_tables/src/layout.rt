@@ -4,8 +4,8 @@ ghost use Rattle.std.specs.Prelude.{◌≡◌};
 ghost use Rattle.type_faults.specs.Program.{source_in};
 ghost use Rattle.program_tables.specs.Library.{IsLibraryFirst, LibraryComesFirst};
 
+use core_making::CapturedLocal;
 use je_base::Names;
-use known_classes::CapturedLocal;
 use source_subtypes::ClassHeads;
 use type_faults::Program as Source;
 

@@ -8,7 +8,7 @@ ghost use Rattle.class_typing.specs.Programs.{heads as the_heads, library_count,
 ghost use Rattle.declarations.specs.Declarations.{DeclaredClass};
 ghost use Rattle.declarations.specs.View.{class_shown};
 ghost use Rattle.je_scopes.specs.Source.{Source};
-ghost use Rattle.known_classes.specs.Known.{captured_seen};
+ghost use Rattle.core_making.specs.Known.{captured_seen};
 ghost use Rattle.source_subtypes.specs.View.{heads_of};
 ghost use Rattle.type_faults.specs.Program.{source_in};
 ghost use Rattle.program_tables.specs.Counts.{behind_hidden, without, without_first};

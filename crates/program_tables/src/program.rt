@@ -6,7 +6,7 @@ ghost use Rattle.body_places.specs.View.{program_seen};
 ghost use Rattle.class_heads.specs.View.{classes_of};
 ghost use Rattle.class_typing.specs.Programs.{captured_place, classes as the_classes, heads as the_heads};
 ghost use Rattle.class_typing.specs.Programs.{plain_program as the_plain_program, with_hidden};
-ghost use Rattle.known_classes.specs.Known.{captured_seen};
+ghost use Rattle.core_making.specs.Known.{captured_seen};
 ghost use Rattle.name_typing.specs.Fields.{fields_of as the_fields_of};
 ghost use Rattle.source_subtypes.specs.View.{heads_of};
 ghost use Rattle.type_faults.specs.Program.{source_in};
@@ -16,10 +16,9 @@ use crate::hidden::outer_count;
 use crate::layout::Layout;
 use body_places::{Captured, Program, fields_of};
 use class_heads::AllClasses;
-use core_making::counted;
+use core_making::{CapturedLocal, counted};
 use je_base::Memory;
 use je_core::ClassId;
-use known_classes::CapturedLocal;
 
 // The fields for some locals, of which the first has this place.
 fn places(layout: Layout, first: usize, locals: &[CapturedLocal]) -> Result<Vec<Captured>, Memory>

@@ -12,8 +12,8 @@ use Rattle.body_typing.specs.Bodies.{Met}
 use Rattle.body_walks.specs.Walks.{known_in, program_in}
 use Rattle.body_places.specs.Tables.{constant_at}
 use Rattle.body_scopes.specs.View.{blank_seen}
-use Rattle.known_classes.specs.Known.{captured_seen, known_seen, round_seen}
-use Rattle.known_classes.specs.declared.known.Known.{Known}
+use Rattle.core_making.specs.Known.{captured_seen, known_seen, round_seen}
+use Rattle.core_making.specs.declared.known.Known.{Known}
 use Rattle.name_typing.specs.Program.{Program}
 use Rattle.field_values.specs.Values.{count_at}
 use Rattle.class_typing.specs.Captures.{captures}

@@ -17,7 +17,7 @@ use Rattle.class_methods.specs.HierarchyView.{HasAll}
 use Rattle.class_methods.specs.declared.hierarchy.Hierarchy.{Hierarchy}
 use Rattle.source_subtypes.specs.View.{heads_of}
 use Rattle.field_values.specs.Values.{count_at}
-use Rattle.known_classes.specs.Known.{known_seen, round_seen}
+use Rattle.core_making.specs.Known.{known_seen, round_seen}
 use Rattle.class_typing.specs.Captures.{captures}
 use Rattle.class_typing.specs.ConstantFields.{constants_shifted, is_blank}
 use Rattle.class_typing.specs.Elaboration.{BodiesMet, captured_count, core_classes, guest_count, hidden_count, whole_program, whole_world}

@@ -11,7 +11,7 @@ ghost use Rattle.declarations.specs.View.{class_shown};
 ghost use Rattle.je_core.specs.View.{class_view};
 ghost use Rattle.je_typing.specs.Answers.{IsFault};
 ghost use Rattle.je_typing.specs.Judged.{gives};
-ghost use Rattle.known_classes.specs.Known.{captured_seen};
+ghost use Rattle.core_making.specs.Known.{captured_seen};
 ghost use Rattle.library_classes.specs.Library.{all_due};
 ghost use Rattle.library_classes.specs.Numbers.{number_in};
 ghost use Rattle.body_walks.specs.Seen.{met_seen};
@@ -33,11 +33,11 @@ use call_steps::{Calls, MethodTable};
 use class_heads::AllClasses;
 use class_places::captured_locals;
 use constant_names::constant_names;
+use core_making::{CapturedLocal, Known};
 use declarations::ClassDecl;
 use je_base::Memory;
 use je_core::Class;
 use je_typing::Refusal;
-use known_classes::{CapturedLocal, Known};
 use name_sites::Sites;
 use program_tables::{
     Layout, add_hidden_fields, captured_fields, plain_program, remove_hidden_fields,

@@ -17,13 +17,13 @@ use body_places::{Constant, Frame, Initializer, Program, field_at};
 use body_scopes::Scope;
 use body_walks::Bodies;
 use call_steps::Calls;
+use core_making::Known;
 use declarations::FieldDecl;
 use field_values::FieldValue;
 use je_ast::Expr;
 use je_base::Memory;
 use je_core::ClassId;
 use je_typing::Refusal;
-use known_classes::Known;
 use name_walk::Context;
 use statement_forms::variable_constant;
 use std::alloc::Global;
@@ -51,7 +51,7 @@ pub fn asks(asked: &[bool], class: usize) -> bool
 }
 
 /// The same bodies where these fields are constants, and nothing is captured or assigned.
-#[tactic(auto, unfolding(known_classes::specs::Known::known_seen))]
+#[tactic(auto, unfolding(core_making::specs::Known::known_seen))]
 pub fn judged_by<'a>(bodies: Bodies<'a>, constants: &'a [Vec<Option<Constant>>]) -> Bodies<'a>
     ensures program { program_in result ≡
         record (program_in bodies.entry) { constants = constant_at constants.now } }

@@ -40,7 +40,7 @@ pub fn program_with<'a>(program: Program<'a>, constants: &'a [Vec<Option<Constan
 }
 
 // The first walk where these fields are constants.
-#[tactic(auto, unfolding(known_classes::specs::Known::known_seen))]
+#[tactic(auto, unfolding(core_making::specs::Known::known_seen))]
 fn walk_with<'a>(walk: Walk<'a>, constants: &'a [Vec<Option<Constant>>]) -> Walk<'a>
     ensures program { program_in result.bodies ≡
         record (program_in walk.entry.bodies) { constants = constant_at constants.now } }

@@ -9,7 +9,7 @@ ghost use Rattle.class_heads.specs.View.{classes_of};
 ghost use Rattle.class_typing.specs.ConstantFields.{constants_of, field_value, nothing_known, unwritten};
 ghost use Rattle.je_classes.specs.Members.{Member};
 ghost use Rattle.source_types.specs.Erasure.{class_numbered};
-ghost use Rattle.known_classes.specs.Known.{round_seen};
+ghost use Rattle.core_making.specs.Known.{round_seen};
 ghost use Rattle.field_values.specs.Values.{value_at, values_in};
 ghost use Rattle.type_decl.specs.way.Asked.{is_asked};
 ghost use Rattle.type_decl.specs.way.Rows.{constant_due, fields_declared, next_seen};

@@ -10,7 +10,7 @@ ghost use Rattle.class_typing.specs.Elaboration.{constants_behind, constants_fir
 ghost use Rattle.class_typing.specs.Elaboration.{constants_told as the_constants_told, is_guest_class};
 ghost use Rattle.class_typing.specs.Places.{round_met as the_round_met};
 ghost use Rattle.type_decl.specs.way.Asked.{is_asked};
-ghost use Rattle.known_classes.specs.Known.{round_seen};
+ghost use Rattle.core_making.specs.Known.{round_seen};
 ghost use Rattle.library_classes.specs.Library.{all_due};
 ghost use Rattle.library_classes.specs.Numbers.{number_in};
 ghost use Rattle.body_walks.specs.Seen.{met_seen};

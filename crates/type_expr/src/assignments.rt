@@ -21,7 +21,7 @@ use je_typing::Refusal;
 use typed_nodes::TypedExpr;
 
 /// `++` and `--` of a target, whose old or new value they give.
-#[tactic(auto, using(je_typing::proofs::Walks::walks, crate::proofs::Assigning::asking), unfolding(known_classes::specs::Known::known_seen))]
+#[tactic(auto, using(je_typing::proofs::Walks::walks, crate::proofs::Assigning::asking), unfolding(core_making::specs::Known::known_seen))]
 pub fn counted(
     bodies: Bodies,
     scope: &Scope,

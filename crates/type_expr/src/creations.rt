@@ -15,13 +15,13 @@ use body_scopes::Scope;
 use body_type_steps::anonymous_type;
 use body_walks::Bodies;
 use call_steps::CreationSpans;
+use core_making::captures_for;
 use creation_steps::{anonymous_creation, creation};
 use header_steps::class_of;
 use je_ast::TyName;
 use je_base::Span;
 use je_core::ClassId;
 use je_typing::Refusal;
-use known_classes::captures_for;
 use name_types::SrcTy;
 use typed_nodes::TypedExpr;
 

@@ -5,7 +5,7 @@ use Rattle.std.specs.declared.vec.Vec.{Vec}
 use Rattle.je_scopes.specs.Source.{Source}
 use Rattle.class_typing.specs.Programs.{outer_count}
 use Rattle.body_places.specs.declared.tables.Captured.{Captured}
-use Rattle.known_classes.specs.declared.known.CapturedLocal.{CapturedLocal}
+use Rattle.core_making.specs.declared.known.CapturedLocal.{CapturedLocal}
 
 -- of locals of which the first has this field
 abbrev pub places_from : ℕ → List CapturedLocal → List Captured

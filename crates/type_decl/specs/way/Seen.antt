@@ -17,7 +17,7 @@ use Rattle.je_scopes.specs.BinaryNames.{number_in}
 use Rattle.je_scopes.specs.Sites.{Site}
 use Rattle.je_scopes.specs.Source.{Source}
 use Rattle.je_typing.specs.Judged.{Judged}
-use Rattle.known_classes.specs.Known.{captured_seen}
+use Rattle.core_making.specs.Known.{captured_seen}
 use Rattle.body_walks.specs.Seen.{met_seen}
 use Rattle.source_subtypes.specs.View.{heads_of}
 use Rattle.body_typing.specs.Bodies.{Met}

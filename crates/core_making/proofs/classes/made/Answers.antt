@@ -7,7 +7,7 @@ use Rattle.je_scopes.specs.Headers.{is_interface_sort, span_in}
 use Rattle.class_typing.specs.Classes.{classes_of_types, interfaces_if, superclass_if}
 use Rattle.declarations.specs.View.{field_shown}
 use Rattle.body_places.specs.View.{program_seen}
-use Rattle.known_classes.specs.Known.{captured_local_seen}
+use Rattle.core_making.specs.Known.{captured_local_seen}
 use Rattle.core_making.specs.way.Made.{fields_from}
 use Rattle.core_making.proofs.Numbers.{numbered}
 use Rattle.core_making.proofs.classes.made.Goals as goal

@@ -1,7 +1,7 @@
 use Rattle.std.proofs.Common.{◌≡◌, ◌++◌, drop, map}
 use Rattle.je_core.specs.View.{field_view}
 use Rattle.body_places.specs.View.{program_seen}
-use Rattle.known_classes.specs.Known.{captured_local_seen}
+use Rattle.core_making.specs.Known.{captured_local_seen}
 use Rattle.core_making.specs.way.HiddenFields.{captured_field}
 use Rattle.core_making.proofs.fields.add_captured.Given as goal
 

@@ -3,7 +3,7 @@ use Rattle.std.proofs.lemmas.List.{append-nil}
 use Rattle.std.proofs.lemmas.Option.{slice_get_past}
 use Rattle.class_typing.specs.Programs.{captured_type, hidden_field}
 use Rattle.declarations.specs.View.{field_shown}
-use Rattle.known_classes.specs.Known.{locals_in}
+use Rattle.core_making.specs.Known.{locals_in}
 use Rattle.type_faults.specs.Program.{source_in}
 use Rattle.program_tables.proofs.hidden.add_captured.Goals as goal
 

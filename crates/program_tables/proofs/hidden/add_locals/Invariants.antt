@@ -1,7 +1,7 @@
 use Rattle.std.proofs.Common.{◌≡◌, ◌++◌, drop, map}
 use Rattle.class_typing.specs.Programs.{captured_type, hidden_field}
 use Rattle.declarations.specs.View.{field_shown}
-use Rattle.known_classes.specs.Known.{captured_local_seen}
+use Rattle.core_making.specs.Known.{captured_local_seen}
 use Rattle.type_faults.specs.Program.{source_in}
 use Rattle.program_tables.proofs.hidden.add_locals.Given as goal
 

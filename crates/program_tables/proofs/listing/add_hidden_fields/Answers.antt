@@ -1,6 +1,6 @@
 use Rattle.std.proofs.Common.{map}
 use Rattle.declarations.specs.View.{class_shown}
-use Rattle.known_classes.specs.Known.{captured_seen}
+use Rattle.core_making.specs.Known.{captured_seen}
 use Rattle.type_faults.specs.Program.{source_in}
 use Rattle.program_tables.proofs.HiddenFields.{hidden_behind}
 use Rattle.program_tables.proofs.listing.add_hidden_fields.Goals as goal

@@ -1,7 +1,7 @@
 use Rattle.std.proofs.Common.{◌≡◌}
 use Rattle.class_typing.specs.Programs.{with_hidden}
 use Rattle.declarations.specs.View.{class_shown}
-use Rattle.known_classes.specs.Known.{captured_seen}
+use Rattle.core_making.specs.Known.{captured_seen}
 use Rattle.type_faults.specs.Program.{source_in}
 use Rattle.program_tables.proofs.Each.{written_to}
 use Rattle.program_tables.proofs.listing.add_to_each.Given as goal

@@ -1,5 +1,5 @@
 use Rattle.std.proofs.Common.{arith}
-use Rattle.known_classes.specs.Known.{captured_seen}
+use Rattle.core_making.specs.Known.{captured_seen}
 use Rattle.type_faults.specs.Program.{source_in}
 use Rattle.program_tables.proofs.HiddenFields.{all_counted}
 use Rattle.program_tables.proofs.listing.hidden_counts.Goals as goal

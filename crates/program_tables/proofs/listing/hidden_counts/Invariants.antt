@@ -1,7 +1,7 @@
 use Rattle.std.proofs.Common.{◌≡◌, ℕ, ◌<◌, length}
 use Rattle.std.specs.Prelude.{slice_index}
 use Rattle.class_typing.specs.Elaboration.{hidden_count}
-use Rattle.known_classes.specs.Known.{captured_seen}
+use Rattle.core_making.specs.Known.{captured_seen}
 use Rattle.type_faults.specs.Program.{source_in}
 use Rattle.program_tables.proofs.listing.hidden_counts.Given as goal
 

@@ -3,7 +3,7 @@ use Rattle.std.specs.declared.alloc.Global.{Global}
 use Rattle.std.specs.declared.vec.Vec.{Vec}
 use Rattle.std.proofs.lemmas.List.{append-nil, drop_all}
 use Rattle.body_places.specs.declared.tables.Captured.{Captured}
-use Rattle.known_classes.specs.declared.known.CapturedLocal.{CapturedLocal}
+use Rattle.core_making.specs.declared.known.CapturedLocal.{CapturedLocal}
 use Rattle.type_faults.specs.Program.{source_in}
 use Rattle.program_tables.specs.way.Places.{all_places}
 use Rattle.program_tables.proofs.Places.{all_captured}

@@ -3,7 +3,7 @@ use Rattle.std.specs.Prelude.{Option}
 use Rattle.std.specs.List.{sum_by}
 use Rattle.je_classes.specs.Members.{Member}
 use Rattle.name_typing.specs.Program.{Constant}
-use Rattle.known_classes.specs.Known.{round_seen}
+use Rattle.core_making.specs.Known.{round_seen}
 use Rattle.body_places.specs.Tables.{constant_at}
 use Rattle.body_walks.specs.Walks.{program_in}
 use Rattle.type_decl.specs.way.Asked.{is_asked}

@@ -1,5 +1,5 @@
 use Rattle.std.proofs.Common.{◌≡◌, ℕ, ◌≤◌, length}
-use Rattle.known_classes.specs.Known.{round_seen}
+use Rattle.core_making.specs.Known.{round_seen}
 use Rattle.body_places.specs.Tables.{constant_at}
 use Rattle.body_walks.specs.Walks.{program_in}
 use Rattle.class_typing.specs.ConstantFields.{constants_within, field_value}

@@ -1,7 +1,7 @@
 use Rattle.std.proofs.Common.{◌≡◌, ℕ, ◌<◌, length, true}
 use Rattle.std.specs.Prelude.{slice_get, unwrap_or}
 use Rattle.source_types.specs.Erasure.{class_numbered}
-use Rattle.known_classes.specs.Known.{round_seen}
+use Rattle.core_making.specs.Known.{round_seen}
 use Rattle.body_places.specs.Tables as tables
 use Rattle.body_places.specs.Tables.{constant_in}
 use Rattle.body_walks.specs.Walks.{program_in}

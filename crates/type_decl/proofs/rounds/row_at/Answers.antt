@@ -3,7 +3,7 @@ use Rattle.std.specs.Prelude.{Option, slice_get, unwrap_or}
 use Rattle.std.specs.declared.vec.Vec.{Vec}
 use Rattle.std.specs.declared.alloc.Global.{Global}
 use Rattle.source_types.specs.Erasure.{class_numbered}
-use Rattle.known_classes.specs.Known.{round_seen}
+use Rattle.core_making.specs.Known.{round_seen}
 use Rattle.body_places.specs.declared.tables.Constant.{Constant}
 use Rattle.body_places.specs.Tables.{constant_in}
 use Rattle.body_walks.specs.Walks.{program_in}

@@ -3,7 +3,7 @@ use Rattle.std.specs.Prelude.{slice_get}
 use Rattle.std.proofs.lemmas.Grind.{common_steps}
 use Rattle.name_lookup.proofs.Tables.{push-each}
 use Rattle.name_sites.specs.View.{source_of}
-use Rattle.known_classes.specs.Known.{frames_in}
+use Rattle.core_making.specs.Known.{frames_in}
 use Rattle.class_typing.specs.Places.{round_met}
 use Rattle.type_decl.specs.way.Asked.{is_asked}
 use Rattle.body_walks.specs.Seen.{met_seen}

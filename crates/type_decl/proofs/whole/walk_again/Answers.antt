@@ -13,7 +13,7 @@ use Rattle.class_typing.specs.Places.{round_met}
 use Rattle.class_typing.specs.Programs.{library_count}
 use Rattle.declarations.specs.View.{class_shown}
 use Rattle.field_values.specs.Values.{count_at}
-use Rattle.known_classes.specs.Known.{captured_seen, round_seen}
+use Rattle.core_making.specs.Known.{captured_seen, round_seen}
 use Rattle.body_walks.specs.Seen.{met_seen}
 use Rattle.name_sites.specs.View.{source_of}
 use Rattle.source_subtypes.specs.View.{heads_of}

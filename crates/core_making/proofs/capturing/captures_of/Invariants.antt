@@ -2,10 +2,10 @@ use Rattle.std.proofs.Common.{◌≡◌, ◌≤◌, drop, length, map}
 use Rattle.je_core.specs.View.{capture_view}
 use Rattle.body_places.specs.Places.{place_seen}
 use Rattle.body_places.specs.View.{program_seen}
-use Rattle.known_classes.specs.Known.{captured_seen, round_seen}
-use Rattle.known_classes.specs.way.Seen.{above_seen}
-use Rattle.known_classes.specs.way.Upwards.{captures_of}
-use Rattle.known_classes.proofs.capturing.captures_of.Given as goal
+use Rattle.core_making.specs.Known.{captured_seen, round_seen}
+use Rattle.core_making.specs.way.Seen.{above_seen}
+use Rattle.core_making.specs.way.Upwards.{captures_of}
+use Rattle.core_making.proofs.capturing.captures_of.Given as goal
 
 abbrev pub invariant-loop-at : goal.invariant-loop-at
 invariant-loop-at l = record {

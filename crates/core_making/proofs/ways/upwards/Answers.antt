@@ -3,11 +3,11 @@ use Rattle.std.specs.Prelude.{option_map}
 use Rattle.je_core.specs.declared.types.ClassId.{ClassId}
 use Rattle.std.proofs.lemmas.List.{map-append}
 use Rattle.body_places.specs.View.{program_seen}
-use Rattle.known_classes.specs.Known.{captured_seen, round_seen}
-use Rattle.known_classes.specs.way.Seen.{above_seen}
-use Rattle.known_classes.specs.way.Upwards.{way_above}
-use Rattle.known_classes.proofs.Upwards.{no_steps, none_above, stepped}
-use Rattle.known_classes.proofs.ways.upwards.Goals as goal
+use Rattle.core_making.specs.Known.{captured_seen, round_seen}
+use Rattle.core_making.specs.way.Seen.{above_seen}
+use Rattle.core_making.specs.way.Upwards.{way_above}
+use Rattle.core_making.proofs.Upwards.{no_steps, none_above, stepped}
+use Rattle.core_making.proofs.ways.upwards.Goals as goal
 
 pub loop-left-preserved : goal.loop-left-preserved
 loop-left-preserved c =

@@ -4,8 +4,8 @@ ghost use Rattle.std.specs.Prelude.{◌≡◌, map, option_map};
 ghost use Rattle.class_typing.specs.Captures.{first_class as the_first_class, is_guest_class as the_is_guest_class, superclass as the_superclass};
 ghost use Rattle.name_types.specs.View.{shown};
 ghost use Rattle.body_places.specs.View.{program_seen};
-ghost use Rattle.known_classes.specs.Known.{captured_seen, round_seen};
-ghost use Rattle.known_classes.specs.way.Upwards.{guest_if as the_guest_if};
+ghost use Rattle.core_making.specs.Known.{captured_seen, round_seen};
+ghost use Rattle.core_making.specs.way.Upwards.{guest_if as the_guest_if};
 
 use crate::known::Known;
 use body_places::Program;

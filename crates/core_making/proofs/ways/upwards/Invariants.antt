@@ -6,10 +6,10 @@ use Rattle.class_typing.specs.Captures.{way_until}
 use Rattle.name_typing.specs.Program.{frames}
 use Rattle.body_places.specs.Places.{place_seen}
 use Rattle.body_places.specs.View.{program_seen}
-use Rattle.known_classes.specs.Known.{captured_seen, round_seen}
-use Rattle.known_classes.specs.way.Seen.{above_seen}
-use Rattle.known_classes.specs.way.Upwards.{upwards}
-use Rattle.known_classes.proofs.ways.upwards.Given as goal
+use Rattle.core_making.specs.Known.{captured_seen, round_seen}
+use Rattle.core_making.specs.way.Seen.{above_seen}
+use Rattle.core_making.specs.way.Upwards.{upwards}
+use Rattle.core_making.proofs.ways.upwards.Given as goal
 
 abbrev pub invariant-loop-left : goal.invariant-loop-left
 invariant-loop-left l =

@@ -9,7 +9,7 @@ use Rattle.name_types.specs.View.{shown}
 use Rattle.name_typing.specs.Program.{Frame, Place, Program}
 use Rattle.class_typing.specs.Captures.{captures_upwards, first_class, own_captures, superclass}
 use Rattle.class_typing.specs.Programs.{CapturedLocal}
-use Rattle.known_classes.specs.way.Upwards.{Above, captures_of, guest_if, upwards, way_above}
+use Rattle.core_making.specs.way.Upwards.{Above, captures_of, guest_if, upwards, way_above}
 
 module _ (p : Program) (captured : ℕ → List CapturedLocal) (round_of : ℕ → List Frame) where
   pub class_by_class : (place : Place) (n : ℕ) (o : Option ℕ) (way : List (ClassId × ℕ)) →

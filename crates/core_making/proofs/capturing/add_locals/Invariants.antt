@@ -3,8 +3,8 @@ use Rattle.class_typing.specs.Captures.{local_captures}
 use Rattle.je_core.specs.View.{capture_view}
 use Rattle.body_places.specs.Places.{place_seen}
 use Rattle.body_places.specs.View.{program_seen}
-use Rattle.known_classes.specs.Known.{captured_local_seen, captured_seen, round_seen}
-use Rattle.known_classes.proofs.capturing.add_locals.Given as goal
+use Rattle.core_making.specs.Known.{captured_local_seen, captured_seen, round_seen}
+use Rattle.core_making.proofs.capturing.add_locals.Given as goal
 
 abbrev pub invariant-loop-at : goal.invariant-loop-at
 invariant-loop-at l =

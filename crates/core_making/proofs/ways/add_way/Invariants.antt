@@ -3,8 +3,8 @@ use Rattle.call_typing.specs.Creations.{is_round}
 use Rattle.class_typing.specs.Captures.{way_until}
 use Rattle.body_places.specs.Places.{frame_seen}
 use Rattle.body_places.specs.View.{program_seen}
-use Rattle.known_classes.specs.Known.{captured_seen, round_seen}
-use Rattle.known_classes.proofs.ways.add_way.Given as goal
+use Rattle.core_making.specs.Known.{captured_seen, round_seen}
+use Rattle.core_making.proofs.ways.add_way.Given as goal
 
 abbrev pub invariant-loop-frame : goal.invariant-loop-frame
 invariant-loop-frame l =

@@ -6,12 +6,12 @@ ghost use Rattle.class_typing.specs.Captures.{way_until};
 ghost use Rattle.name_typing.specs.Program.{frames};
 ghost use Rattle.body_places.specs.Places.{frame_seen, place_seen};
 ghost use Rattle.body_places.specs.View.{program_seen};
-ghost use Rattle.known_classes.specs.Known.{captured_seen, round_seen};
-ghost use Rattle.known_classes.specs.way.Seen.{above_seen};
-ghost use Rattle.known_classes.specs.way.Upwards.{upwards as the_upwards, way_above};
+ghost use Rattle.core_making.specs.Known.{captured_seen, round_seen};
+ghost use Rattle.core_making.specs.way.Seen.{above_seen};
+ghost use Rattle.core_making.specs.way.Upwards.{upwards as the_upwards, way_above};
 
-use crate::classes::superclass;
 use crate::known::{Known, bodies_round};
+use crate::program_classes::superclass;
 use body_places::{Frame, Place, Program, outer_of};
 use enclosing_instances::is_round;
 use je_base::Memory;

@@ -5,9 +5,9 @@ ghost use Rattle.class_typing.specs.Captures.{guest_captures as the_guest_captur
 ghost use Rattle.je_core.specs.View.{capture_view};
 ghost use Rattle.body_places.specs.Places.{place_seen};
 ghost use Rattle.body_places.specs.View.{program_seen};
-ghost use Rattle.known_classes.specs.Known.{captured_local_seen, captured_seen, known_seen, round_seen};
-ghost use Rattle.known_classes.specs.way.Seen.{above_seen};
-ghost use Rattle.known_classes.specs.way.Upwards.{captures_of as the_captures_of};
+ghost use Rattle.core_making.specs.Known.{captured_local_seen, captured_seen, known_seen, round_seen};
+ghost use Rattle.core_making.specs.way.Seen.{above_seen};
+ghost use Rattle.core_making.specs.way.Upwards.{captures_of as the_captures_of};
 
 use crate::known::{CapturedLocal, Known, captured_by};
 use crate::ways::{Above, upwards};

@@ -2,7 +2,7 @@
 
 ghost use Rattle.std.specs.Prelude.{◌≡◌, map};
 ghost use Rattle.body_places.specs.Places.{frame_seen};
-ghost use Rattle.known_classes.specs.Known.{captured_local_seen, captured_seen, round_seen};
+ghost use Rattle.core_making.specs.Known.{captured_local_seen, captured_seen, round_seen};
 
 use body_places::{Frame, LocalVariable};
 use je_core::ClassId;

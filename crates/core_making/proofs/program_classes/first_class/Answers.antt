@@ -1,9 +1,9 @@
 use Rattle.std.proofs.Common.{ap, ◌∙◌, arith}
 use Rattle.body_places.specs.View.{program_seen}
-use Rattle.known_classes.specs.Known.{captured_seen, round_seen}
-use Rattle.known_classes.specs.way.Upwards.{guest_if}
-use Rattle.known_classes.proofs.Upwards.{first_at, none_at}
-use Rattle.known_classes.proofs.classes.first_class.Goals as goal
+use Rattle.core_making.specs.Known.{captured_seen, round_seen}
+use Rattle.core_making.specs.way.Upwards.{guest_if}
+use Rattle.core_making.proofs.Upwards.{first_at, none_at}
+use Rattle.core_making.proofs.program_classes.first_class.Goals as goal
 
 pub returns-in-empty : goal.returns-in-empty
 returns-in-empty c =

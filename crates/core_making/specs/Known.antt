@@ -9,8 +9,8 @@ use Rattle.class_typing.specs.Programs as programs
 use Rattle.body_places.specs.declared.place.Frame.{Frame}
 use Rattle.body_places.specs.Places.{frame_seen, local_seen}
 use Rattle.body_scopes.specs.View.{blank_seen}
-use Rattle.known_classes.specs.declared.known.CapturedLocal.{CapturedLocal}
-use Rattle.known_classes.specs.declared.known.Known.{Known}
+use Rattle.core_making.specs.declared.known.CapturedLocal.{CapturedLocal}
+use Rattle.core_making.specs.declared.known.Known.{Known}
 
 abbrev pub captured_local_seen : CapturedLocal → programs.CapturedLocal
 captured_local_seen l = record { owner = l.owner.0; variable = local_seen l.variable }
