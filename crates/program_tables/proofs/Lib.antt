@@ -1,3 +1,9 @@
+pub mod Placed
+pub mod Pushed
+pub mod Orders
+pub mod Once
+pub mod Sorting
+pub mod FirstFields
 pub mod Dropped
 pub mod Each
 pub mod EnumMethods

@@ -1,3 +1,3 @@
+pub mod way
 pub mod Counts
 pub mod Library
-pub mod way

@@ -10,9 +10,9 @@ ghost use Rattle.je_scopes.specs.Source.{Source};
 ghost use Rattle.library_declarations.specs.Library.{library_declared};
 ghost use Rattle.program_tables.specs.way.Texts.{with_texts};
 
+use crate::declared::enum_methods;
 use core_making::{counted, is_enum_sort};
 use declarations::ClassDecl;
-use enum_members::enum_methods;
 use je_base::{Memory, Names};
 use je_core::ClassId;
 use std::alloc::Global;

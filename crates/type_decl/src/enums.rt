@@ -5,11 +5,11 @@ ghost use Rattle.je_core.specs.View.{view};
 ghost use Rattle.member_forms.specs.Seen.{members_seen};
 ghost use Rattle.type_decl.specs.way.Walks.{enum_members as the_enum_members, no_constant};
 
-use enum_members::{EnumClass, constants_made, enum_code};
 use je_ast::Identifier;
 use je_base::Memory;
 use je_core::Expr;
 use member_forms::{ClassWalk, MembersDone, alloc, class_span, nothing};
+use program_tables::{EnumClass, constants_made, enum_code};
 
 // Enum constants are no constants of an expression.
 fn no_constants(walk: ClassWalk, constants: &[Identifier]) -> Result<Vec<Option<Expr>>, Memory>

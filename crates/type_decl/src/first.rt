@@ -32,7 +32,6 @@ use body_walks::Bodies;
 use call_steps::{Calls, MethodTable};
 use class_heads::AllClasses;
 use class_places::captured_locals;
-use constant_names::constant_names;
 use core_making::{CapturedLocal, Known};
 use declarations::ClassDecl;
 use je_base::Memory;
@@ -40,7 +39,7 @@ use je_core::Class;
 use je_typing::Refusal;
 use name_sites::Sites;
 use program_tables::{
-    Layout, add_hidden_fields, captured_fields, plain_program, remove_hidden_fields,
+    Layout, add_hidden_fields, captured_fields, constant_names, plain_program, remove_hidden_fields,
 };
 use signature_steps::{ConstantField, Setting, judge_signatures};
 use written_types::Surroundings;
