@@ -6,7 +6,7 @@ use Rattle.body_typing.specs.Expressions.{Known}
 use Rattle.class_typing.specs.Members as words
 use Rattle.body_places.specs.Places.{frame_seen}
 use Rattle.body_walks.specs.Walks.{known_in, program_in}
-use Rattle.constructor_cycles.specs.Calls.{own_call_seen}
+use Rattle.member_forms.specs.Calls.{own_call_seen}
 use Rattle.body_walks.specs.Seen.{met_seen}
 use Rattle.member_forms.specs.declared.done.MembersDone.{MembersDone}
 use Rattle.member_forms.specs.declared.walk.ClassWalk.{ClassWalk}

@@ -1,5 +1,6 @@
 //! The forms of members of a class whose expressions and statements are judged: fields with their constants and
-//! initializers, the code of methods, constructors and initializers, and what no source writes of a class (JLS 8).
+//! initializers, the code of methods, constructors and initializers, and what no source writes of a class (JLS 8);
+//! whether constructors lead back to themselves by the words `this` at their heads (JLS 8.8.7).
 //!
 //! Contracts see what a class is judged by as the parts that `class_typing` goes by (`specs/Seen.antt`), and cite its
 //! definitions by them (`specs/Walks.antt`). `Ok` comes only where the definition gives, with that; `Err` with a fault
@@ -9,6 +10,7 @@
 
 mod constructors;
 mod counting;
+mod cycles;
 mod done;
 mod fields;
 mod initializers;
@@ -20,6 +22,7 @@ mod walk;
 
 pub use constructors::{ConstructorHead, constructor_call, constructor_code};
 pub use counting::{declared_at, fields_behind, methods_behind, next};
+pub use cycles::{OwnCall, no_cycle};
 pub use done::{MembersDone, follow, nothing};
 pub use fields::{initialized, uninitialized};
 pub use initializers::{initializer_code, initializer_scope};

@@ -21,12 +21,12 @@ use crate::initializers::initializer;
 use crate::methods::method;
 use crate::unwritten::unwritten;
 use body_walks::Met;
-use constructor_cycles::no_cycle;
 use je_ast::Member;
 use je_typing::Refusal;
 use member_faults::members_of;
 use member_forms::{
-    ClassWalk, MembersDone, alloc, declared_at, fields_behind, follow, methods_behind, nothing,
+    ClassWalk, MembersDone, alloc, declared_at, fields_behind, follow, methods_behind, no_cycle,
+    nothing,
 };
 use name_walk::Written;
 

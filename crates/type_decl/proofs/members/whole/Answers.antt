@@ -5,8 +5,8 @@ use Rattle.je_scopes.specs.Headers.{members_in}
 use Rattle.je_typing.specs.Judged.{gives}
 use Rattle.je_typing.proofs.Walks.{bind_gives}
 use Rattle.class_typing.specs.Constructors.{no_cycle}
-use Rattle.constructor_cycles.specs.Calls.{own_call_seen}
-use Rattle.constructor_cycles.specs.declared.cycles.OwnCall.{OwnCall}
+use Rattle.member_forms.specs.Calls.{own_call_seen}
+use Rattle.member_forms.specs.declared.cycles.OwnCall.{OwnCall}
 use Rattle.body_walks.specs.Seen.{met_seen}
 use Rattle.member_forms.specs.Seen.{members_seen}
 use Rattle.type_decl.specs.way.Walks.{members_from, written_of}

@@ -10,8 +10,8 @@ use Rattle.je_typing.specs.declared.fault.TypeRule.TheVariants.{CtorCycle}
 use Rattle.je_typing.specs.Answers.{IsFault, first_fault}
 use Rattle.je_typing.specs.Judged.{gives}
 use Rattle.class_typing.specs.Constructors.{OwnCall, call_at, leads_back, leads_on, leads_within, no_call, no_cycle}
-use Rattle.constructor_cycles.specs.declared.cycles.OwnCall.{OwnCall as Call}
-use Rattle.constructor_cycles.specs.Calls.{leads_back_by, leads_by, leads_on_by, or_called, own_call_seen, to_of}
+use Rattle.member_forms.specs.declared.cycles.OwnCall.{OwnCall as Call}
+use Rattle.member_forms.specs.Calls.{leads_back_by, leads_by, leads_on_by, or_called, own_call_seen, to_of}
 
 -- ---- calls that are listed
 

@@ -5,7 +5,7 @@ ghost use Rattle.std.specs.List.{find};
 ghost use Rattle.je_typing.specs.Answers.{IsFault};
 ghost use Rattle.je_typing.specs.Judged.{gives};
 ghost use Rattle.class_typing.specs.Constructors.{call_at, no_cycle as the_no_cycle};
-ghost use Rattle.constructor_cycles.specs.Calls.{called_in, leads_back_by, leads_by, or_called, own_call_seen, to_of};
+ghost use Rattle.member_forms.specs.Calls.{called_in, leads_back_by, leads_by, or_called, own_call_seen, to_of};
 
 use je_base::{Memory, Span};
 use je_typing::{Refusal, TypeFault, TypeRule};

@@ -1,7 +1,7 @@
 use Rattle.std.proofs.Common.{◌-◌, ◌+◌, sym, arith}
-use Rattle.constructor_cycles.specs.Calls.{called_in}
-use Rattle.constructor_cycles.proofs.Ways.{goes_on, not_same}
-use Rattle.constructor_cycles.proofs.cycles.leads_back.Goals as goal
+use Rattle.member_forms.specs.Calls.{called_in}
+use Rattle.member_forms.proofs.Ways.{goes_on, not_same}
+use Rattle.member_forms.proofs.cycles.leads_back.Goals as goal
 
 pub loop-preserved : goal.loop-preserved
 loop-preserved c = goes_on (called_in c.args.table.now) c.args.place (c.args.count - c.loop.counter) (c.args.count - (c.loop.counter + 1)) c.loop.at c.in-Some.to _

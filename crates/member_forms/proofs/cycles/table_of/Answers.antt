@@ -1,7 +1,7 @@
 use Rattle.std.proofs.Common.{arith}
-use Rattle.constructor_cycles.specs.Calls.{called_in}
-use Rattle.constructor_cycles.proofs.Ways.{call_more}
-use Rattle.constructor_cycles.proofs.cycles.table_of.Goals as goal
+use Rattle.member_forms.specs.Calls.{called_in}
+use Rattle.member_forms.proofs.Ways.{call_more}
+use Rattle.member_forms.proofs.cycles.table_of.Goals as goal
 
 pub loop-call-preserved : goal.loop-call-preserved
 loop-call-preserved c = call_more c.args.calls.now c.loop-call.call-index _ (called_in c.loop-call.table.items) (called_in c.add_call.new.table.items) (omega arith)

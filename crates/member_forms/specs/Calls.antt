@@ -1,7 +1,7 @@
 -- Calls between constructors, and the table of them.
 use Rattle.std.specs.Prelude.{ℕ, zero, suc, Bool, false, ◌||◌, List, Option, Some, None, if◌then◌else◌, nat_eq, slice_get}
 use Rattle.class_typing.specs.Constructors.{OwnCall}
-use Rattle.constructor_cycles.specs.declared.cycles.OwnCall.{OwnCall as Call}
+use Rattle.member_forms.specs.declared.cycles.OwnCall.{OwnCall as Call}
 
 abbrev pub own_call_seen : Call → OwnCall
 own_call_seen c = record { place = c.place; word = c.word; to = c.to }

@@ -1,6 +1,6 @@
 use Rattle.std.proofs.Common.{◌≡◌, ℕ, ◌+◌, ◌-◌, length}
-use Rattle.constructor_cycles.specs.Calls.{called_in}
-use Rattle.constructor_cycles.proofs.cycles.reach.Given as goal
+use Rattle.member_forms.specs.Calls.{called_in}
+use Rattle.member_forms.proofs.cycles.reach.Given as goal
 
 abbrev pub invariant-loop-table : goal.invariant-loop-table
 invariant-loop-table l = (n : ℕ) → called_in l.table.items n ≡ called_in l.initial.table.items n

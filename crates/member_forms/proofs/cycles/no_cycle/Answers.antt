@@ -1,7 +1,7 @@
 use Rattle.std.proofs.Common.{ap, length, map, ◌∙◌}
-use Rattle.constructor_cycles.specs.Calls.{called_in, own_call_seen}
-use Rattle.constructor_cycles.proofs.Ways.{count_same, none_leads, one_leads}
-use Rattle.constructor_cycles.proofs.cycles.no_cycle.Goals as goal
+use Rattle.member_forms.specs.Calls.{called_in, own_call_seen}
+use Rattle.member_forms.proofs.Ways.{count_same, none_leads, one_leads}
+use Rattle.member_forms.proofs.cycles.no_cycle.Goals as goal
 
 pub returns-in-None-clause-ok : goal.returns-in-None-clause-ok
 returns-in-None-clause-ok c = none_leads (map own_call_seen c.args.calls.now) (called_in c.deref.result.now)
