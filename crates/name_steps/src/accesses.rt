@@ -18,7 +18,6 @@ ghost use Rattle.body_places.specs.View.{program_seen};
 ghost use Rattle.name_steps.specs.way.Selecting.{form_selected};
 
 use crate::values::constant_or;
-use array_steps::length_of;
 use body_places::{
     Found, Place, Program, Selected, constant_of, field_in, found_field, is_instance, this_node,
     type_seen, uses_for,
@@ -29,6 +28,7 @@ use je_core::{Base, ClassId, Expr, Mark, make_field, make_static};
 use je_typing::{Refusal, TypeRule, check};
 use member_values::{has_members, superclass_of};
 use name_types::{SrcBase, SrcTy};
+use operator_steps::length_of;
 use source_subtypes::{ClassHeads, copied, erased, object};
 use std::alloc::Global;
 use typed_nodes::{TypedExpr, is_reference};

@@ -1,0 +1,3 @@
+pub mod way
+pub mod Made
+pub mod Parts

@@ -13,7 +13,6 @@ ghost use Rattle.body_places.specs.Places.{local_seen};
 ghost use Rattle.body_places.specs.View.{program_seen};
 ghost use Rattle.body_scopes.specs.View.{scope_seen};
 
-use assignment_steps::typed_assignment;
 use body_places::{LocalVariable, Program};
 use body_scopes::Scope;
 use je_ast::Identifier;
@@ -21,6 +20,7 @@ use je_base::{Memory, Span};
 use je_core::Expr;
 use je_typing::{Refusal, TypeRule, check};
 use name_steps::typed_local;
+use operator_steps::typed_assignment;
 
 /// Nothing where no other local of the name is in scope in its body, else LocalTwice, at the name.
 pub fn new_name(scope: &Scope, name: Identifier) -> Result<(), Refusal>

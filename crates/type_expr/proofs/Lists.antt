@@ -13,8 +13,8 @@ use Rattle.je_typing.specs.Judged.{Judged, gives, faulty, bind}
 use Rattle.je_typing.proofs.Walks.{bind_faults}
 use Rattle.body_scopes.specs.declared.scope.Scope.{Scope}
 use Rattle.body_walks.specs.declared.bodies.Bodies.{Bodies}
-use Rattle.array_making.specs.declared.part.Part.{Part}
-use Rattle.array_making.specs.Parts.{part_seen}
+use Rattle.operator_steps.specs.declared.part.Part.{Part}
+use Rattle.operator_steps.specs.Parts.{part_seen}
 use Rattle.typed_nodes.specs.declared.typed.TypedExpr.{TypedExpr}
 use Rattle.typed_nodes.specs.Seen.{seen}
 use Rattle.body_typing.specs.Expressions.{Purpose, initial, part, read}

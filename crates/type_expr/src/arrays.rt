@@ -8,14 +8,14 @@ ghost use Rattle.je_typing.specs.Judged.{bind, gives};
 ghost use Rattle.je_typing.specs.Typed.{element_type as the_element_type};
 ghost use Rattle.name_types.specs.View.{base_shown, shown};
 ghost use Rattle.body_typing.specs.Expressions.{array_over as the_array_over, element_or as the_element_or, innermost};
-ghost use Rattle.array_making.specs.Parts.{part_seen};
+ghost use Rattle.operator_steps.specs.Parts.{part_seen};
 ghost use Rattle.source_subtypes.specs.View.{heads_of};
 ghost use Rattle.typed_nodes.specs.Seen.{seen};
 
-use array_making::{Part, new_array, new_array_of};
 use je_base::{Memory, Span};
 use je_typing::Refusal;
 use name_types::{SrcBase, SrcTy};
+use operator_steps::{Part, new_array, new_array_of};
 use source_subtypes::{ClassHeads, copied};
 use std::alloc::Global;
 use typed_nodes::{TypedExpr, element_type};

@@ -9,8 +9,6 @@ ghost use Rattle.body_scopes.specs.View.{scope_seen};
 ghost use Rattle.typed_nodes.specs.Seen.{seen};
 ghost use Rattle.body_walks.specs.Walks.{known_in, program_in};
 
-use array_making::Part;
-use assignment_steps::{assignment, compound};
 use body_scopes::{Scope, not_final};
 use body_walks::Bodies;
 use expr_steps::stepped;
@@ -18,6 +16,7 @@ use je_ast::BinaryOp;
 use je_base::Span;
 use je_core::BinOp;
 use je_typing::Refusal;
+use operator_steps::{Part, assignment, compound};
 use typed_nodes::TypedExpr;
 
 /// `++` and `--` of a target, whose old or new value they give.

@@ -15,7 +15,6 @@ ghost use Rattle.body_walks.specs.Walks.{known_in, program_in};
 
 use crate::assignments::counted;
 use crate::purpose::Purpose;
-use array_making::Part;
 use body_scopes::Scope;
 use body_walks::Bodies;
 use expr_steps::{negative_int_literal, negative_long_literal, plus, unary};
@@ -23,6 +22,7 @@ use je_ast::{BinaryOp, Expr, Literal, PostfixOp, PrefixOp};
 use je_base::Span;
 use je_core::{BinOp, UnOp};
 use je_typing::Refusal;
+use operator_steps::Part;
 use std::alloc::Global;
 use typed_nodes::TypedExpr;
 

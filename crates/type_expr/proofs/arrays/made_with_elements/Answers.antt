@@ -4,8 +4,8 @@ use Rattle.je_typing.specs.Judged.{gives}
 use Rattle.source_subtypes.specs.View.{heads_of}
 use Rattle.typed_nodes.specs.declared.typed.TypedExpr.{TypedExpr}
 use Rattle.typed_nodes.specs.Seen.{seen}
-use Rattle.array_making.specs.Made.{new_array_of}
-use Rattle.array_making.specs.Parts.{part_seen}
+use Rattle.operator_steps.specs.Made.{new_array_of}
+use Rattle.operator_steps.specs.Parts.{part_seen}
 use Rattle.type_expr.proofs.Types.{innermost_is}
 use Rattle.type_expr.proofs.arrays.made_with_elements.Goals as goal
 

@@ -3,7 +3,7 @@ use Rattle.std.specs.Prelude.{min}
 use Rattle.je_scopes.specs.SourceTypes.{with_dims}
 use Rattle.name_types.specs.View.{base_shown}
 use Rattle.name_types.proofs.Views.{rolled_is}
-use Rattle.array_making.proofs.Dimensions.{added_dims}
+use Rattle.operator_steps.proofs.Dimensions.{added_dims}
 use Rattle.type_expr.proofs.arrays.sized.Goals as goal
 
 pub returns : goal.returns

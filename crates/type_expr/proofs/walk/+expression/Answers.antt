@@ -10,7 +10,7 @@ use Rattle.je_typing.specs.Judged.{Judged, gives}
 use Rattle.je_typing.specs.Typed.{TypedNode}
 use Rattle.je_typing.proofs.Walks.{bind_faults, fault_later}
 use Rattle.name_types.specs.View.{shown}
-use Rattle.array_making.specs.Parts.{part_seen}
+use Rattle.operator_steps.specs.Parts.{part_seen}
 use Rattle.typed_nodes.specs.Seen.{seen}
 use Rattle.call_typing.specs.Calls.{receiver}
 use Rattle.body_typing.specs.Expressions.{named_before, read}

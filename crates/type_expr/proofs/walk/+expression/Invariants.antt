@@ -3,7 +3,7 @@ use denote.Param.Weighed.{most}
 use Rattle.je_ast.specs.declared.expr.Expr.{Expr}
 use Rattle.je_ast.proofs.expr.Expr.TheLaws.{the_size}
 use Rattle.je_ast.specs.View.{views_of}
-use Rattle.array_making.specs.Parts.{part_seen}
+use Rattle.operator_steps.specs.Parts.{part_seen}
 use Rattle.typed_nodes.specs.Seen.{seen}
 use Rattle.type_expr.specs.Seen.{purpose_seen}
 use Rattle.type_expr.specs.Walk.{values_in}

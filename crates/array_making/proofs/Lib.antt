@@ -1,3 +1,0 @@
-pub mod Dimensions
-pub mod Initializing
-pub mod Listing

@@ -1,5 +1,0 @@
-use Rattle.name_types.proofs.Views.{rolled_is}
-use Rattle.array_making.proofs.making.innermost.Goals as goal
-
-pub returns-clause-shown : goal.returns-clause-shown
-returns-clause-shown c = rolled_is _

@@ -1,7 +1,0 @@
-use Rattle.std.proofs.Common.{sym, ◌∙◌}
-use Rattle.name_types.proofs.Views.{rolled_is}
-use Rattle.array_making.proofs.Dimensions.{added_dims}
-use Rattle.array_making.proofs.making.sized.Goals as goal
-
-pub returns-clause-shown : goal.returns-clause-shown
-returns-clause-shown c = rolled_is _ ∙ sym (added_dims c.args.base c.args.dims)

@@ -1,3 +1,0 @@
--- What only proofs and private functions cite.
-pub mod Choosing
-pub mod Judging

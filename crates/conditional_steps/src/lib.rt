@@ -1,9 +1,0 @@
-//! The step of typing `? :`.
-//!
-//! `Ok` comes only where the step of `je_typing` gives, with that node and type; `Err` with a fault only where the
-//! step is faulty with it; else memory was wanting.
-#![tactic(auto)]
-
-mod conditionals;
-
-pub use conditionals::choice;

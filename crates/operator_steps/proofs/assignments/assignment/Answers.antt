@@ -1,0 +1,12 @@
+use Rattle.std.proofs.Common.{sym, ap, ◌∙◌}
+use Rattle.je_core.specs.View.{view}
+use Rattle.je_typing.specs.Judged.{gives}
+use Rattle.source_subtypes.specs.View.{heads_of}
+use Rattle.typed_nodes.specs.Seen.{seen}
+use Rattle.operator_steps.proofs.Judging.{assignment_gives}
+use Rattle.operator_steps.proofs.assignments.assignment.Goals as goal
+
+pub returns-clause-ok : goal.returns-clause-ok
+returns-clause-ok c =
+    assignment_gives (heads_of c.args.heads.now) c.args.at c.args.left_span c.args.right_span c.args.span (seen c.args.left) (seen c.args.right) (view c.in_ok-value.value) c.in_ok-value.ensures.ok
+    ∙ ap gives (sym c.in_ok-whole.ensures)

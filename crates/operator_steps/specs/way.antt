@@ -1,0 +1,5 @@
+-- What only proofs and private functions cite.
+pub mod Choosing
+pub mod ConditionalTypes
+pub mod Judging
+pub mod Elements
