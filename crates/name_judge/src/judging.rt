@@ -14,22 +14,23 @@ ghost use Rattle.name_lookup.specs.View.{known_of};
 ghost use Rattle.name_lookup.specs.Table.{AreHeadersOf};
 ghost use Rattle.name_faults.specs.View.{Adds};
 ghost use Rattle.type_faults.specs.Program.{source_in};
-ghost use Rattle.header_faults.specs.Cycles.{AreCyclesOf};
+ghost use Rattle.name_judge.specs.Cycles.{AreCyclesOf};
 ghost use Rattle.name_judge.specs.Refused.{IsRefused};
 
+use crate::cycles::Cycles;
+use crate::heads::judge_heads;
+use crate::methods::judge_methods;
+use crate::parameters::judge_parameters;
 use crate::refusal::Refusal;
-use class_faults::TakenNames;
-use header_faults::{Cycles, judge_heads};
+use crate::taken::TakenNames;
 use je_ast::Unit;
 use je_base::Memory;
 use je_core::ClassId;
 use member_faults::judge_fields;
-use method_faults::judge_methods;
 use name_faults::{Faults, judge_imports};
 use name_lookup::Headers;
 use name_sites::Sites;
 use name_walk::Written;
-use parameter_faults::judge_parameters;
 use std::alloc::Global;
 use type_faults::Program;
 

@@ -1,4 +1,0 @@
-mod Any
-mod Imports
-mod OwnName
-mod Rounds

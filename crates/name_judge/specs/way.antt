@@ -1,0 +1,3 @@
+-- What only proofs and the clauses of private functions cite.
+pub mod Bounds
+pub mod Progress

@@ -1,5 +1,0 @@
-use Rattle.signatures.proofs.Lists.{same_lists_hold}
-use Rattle.signatures.proofs.laws.same_lists.Goals as goal
-
-pub returns : goal.returns
-returns c = same_lists_hold

@@ -1,4 +1,0 @@
-pub mod Spelled
-pub mod Laws
-pub mod Kept
-pub mod Reading

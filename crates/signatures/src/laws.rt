@@ -1,8 +1,0 @@
-// When signatures are the same.
-
-ghost use Rattle.signatures.specs.Laws.{SameLists};
-
-/// Two methods of a class have the same signature exactly where the lists of numbers for them are equal.
-pub fn same_lists()
-    ensures { SameLists }
-{}
