@@ -1,7 +1,7 @@
 mod Few
 mod Interning
 mod Lexed
-mod OneAnswer
+pub mod OneAnswer
 mod Parsed
 mod Refused
 mod Sizes

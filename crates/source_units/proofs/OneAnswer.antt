@@ -1,13 +1,17 @@
--- Files have one list of units at most.
-use Rattle.std.proofs.Common.{◌≡◌, ℕ, suc, List, [], ◌∷◌, Some, refl, sym, ap, ◌∙◌}
+-- Files have one list of units at most, and no fault where they have one.
+use Rattle.std.proofs.Common.{◌≡◌, ℕ, suc, List, [], ◌∷◌, ◌++◌, Some, refl, sym, ap, subst, ◌∙◌}
 use Rattle.std.specs.List.{AllZip}
 use Rattle.je_base.specs.Names.{number_of}
 use Rattle.je_base.specs.declared.span.NameId.{NameId}
 use Rattle.je_token.specs.declared.token.Token.{Token}
 use Rattle.je_ast.specs.Trees.{CompilationUnit}
 use Rattle.je_ast.specs.Renumbering.{renumbered}
-use Rattle.je_lexer.proofs.OneAnswer.{one_tokens}
+use Rattle.je_lexer.specs.Lexing.{HasFault}
+use Rattle.je_lexer.specs.declared.fault.FaultKind.{FaultKind}
+use Rattle.je_lexer.proofs.OneAnswer.{apart, one_tokens}
+use Rattle.host_text.specs.declared.finding.Finding.{Finding}
 use Rattle.unit_laws.proofs.Files.{unit_once}
+use Rattle.source_units.specs.Faults.{HasUnit, IsFirstFault}
 use Rattle.source_units.specs.Files.{FileTokens, AreTokens}
 use Rattle.source_units.specs.Names.{AreNumbers}
 use Rattle.source_units.specs.Units.{IsUnitAmong, AreRead, AreUnitsOf}
@@ -65,3 +69,26 @@ pub units_are_one : (files before : List (List ℕ)) (us vs : List CompilationUn
 units_are_one files before us vs names names1 h k =
     let tokens = tokens_once 0 files h.tokens k.tokens h.lexed k.lexed in
     read_once h.tokens before names names1 us vs h.read (rw tokens k.read)
+
+-- ---- what has units has no fault
+
+token_fault_apart : (n : ℕ) (earlier : List (List ℕ)) (bytes : List ℕ) (later : List (List ℕ)) (fs : List FileTokens) (kind : FaultKind) (start end : ℕ) →
+    AreTokens n (earlier ++ bytes ∷ later) fs → HasFault bytes kind start end → ⊥
+token_fault_apart n [] bytes later _ kind start end (AreTokens.more_files {f = f} is more) worse = apart n bytes f.list f.names f.texts kind start end is worse
+token_fault_apart n (b ∷ bs) bytes later _ kind start end (AreTokens.more_files {fs = fs} is more) worse = token_fault_apart (suc n) bs bytes later fs kind start end more worse
+
+unit_at : (names : List (List ℕ)) (earlier : List FileTokens) (f : FileTokens) (later : List FileTokens) (us : List CompilationUnit) →
+    AllZip (IsUnitAmong names) (earlier ++ f ∷ later) us → HasUnit f
+unit_at names [] f later [] h = absurd h
+unit_at names [] f later (u ∷ us) h = (h.0.own, h.0.is_unit)
+unit_at names (e ∷ es) f later [] h = absurd h
+unit_at names (e ∷ es) f later (u ∷ us) h = unit_at names es f later us h.1
+
+pub units_or_fault : (files before : List (List ℕ)) (us : List CompilationUnit) (names : List (List ℕ)) (x : Finding) → AreUnitsOf files before us names →
+    ¬ IsFirstFault files x
+units_or_fault files before us names x h (IsFirstFault.of_tokens t) =
+    token_fault_apart 0 t.earlier t.bytes t.later h.tokens t.fault.kind x.span.start x.span.end (subst (λ fs. AreTokens 0 fs h.tokens) t.parts h.lexed) t.fault.there
+units_or_fault files before us names x h (IsFirstFault.of_syntax {fs = fs} lexed s) =
+    let same : h.tokens ≡ s.earlier ++ s.file ∷ s.later = tokens_once 0 files h.tokens fs h.lexed lexed ∙ s.parts in
+    let there = unit_at names s.earlier s.file s.later us (subst (λ ts. AllZip (IsUnitAmong names) ts us) same h.read.units_are) in
+    s.fault.none there.0 there.1
