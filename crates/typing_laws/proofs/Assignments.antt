@@ -37,7 +37,7 @@ use Rattle.typing_laws.proofs.Nodes.{erased-plain, no-uses}
 use Rattle.typing_laws.proofs.Subtypes.{either, or-left, or-right}
 use Rattle.typing_laws.proofs.Texts.{string-typed}
 
-whole : (n : Core) → n ≡ node (form_of n) (ty_of n) (span_of n) (token_of n)
+pub whole : (n : Core) → n ≡ node (form_of n) (ty_of n) (span_of n) (token_of n)
 whole (node form t span at) = refl
 
 -- ---- a type agrees with itself, but for `void`
@@ -67,7 +67,7 @@ module _ (p : CoreProgram) where
   agrees-itself base.Int zero h = or-left true (types.is_subtype p (of base.Int) (of base.Int)) refl
   agrees-itself base.Long zero h = or-left true (types.is_subtype p (of base.Long) (of base.Long)) refl
 
-numeric-type : (heads : List ClassHead) (s : SourceType) → is_numeric s ≡ true → is_number (erased heads s) ≡ true
+pub numeric-type : (heads : List ClassHead) (s : SourceType) → is_numeric s ≡ true → is_number (erased heads s) ≡ true
 numeric-type heads (plain b zero) e = ap is_number (erased-plain heads b) ∙ e
 numeric-type heads (plain b (suc n)) e = absurd cc
 numeric-type heads (of_class c ts n) e = absurd cc
@@ -121,14 +121,14 @@ appended heads bounds op.BitAnd s t h = absurd cc
 appended heads bounds op.BitXor s t h = absurd cc
 appended heads bounds op.BitOr s t h = absurd cc
 
-updated : (heads : List ClassHead) → BoundsFit heads → (o : BinOp) (s t : SourceType) → updates o s t ≡ true → core_ops.updates o (erased heads s) (erased heads t) ≡ true
+pub updated : (heads : List ClassHead) → BoundsFit heads → (o : BinOp) (s t : SourceType) → updates o s t ≡ true → core_ops.updates o (erased heads s) (erased heads t) ≡ true
 updated heads bounds o s t h = either _ (combines (core_ops.sort_of o) s t) (appends o s t) h
     (λ k. or-left (core_ops.changes (core_ops.sort_of o) (erased heads s) (erased heads t)) _ (changes heads (core_ops.sort_of o) s t k))
     (λ k. or-right (core_ops.changes (core_ops.sort_of o) (erased heads s) (erased heads t)) _ (appended heads bounds o s t k))
 
 module _ (p : CoreProgram) (body : Body) (heads : List ClassHead) where
   -- the constant strings of a program say nothing of its variables
-  with-place : (texts : List (List ℕ)) (form : CoreForm) → IsPlace p body form → IsPlace (with_texts p texts) body form
+  pub with-place : (texts : List (List ℕ)) (form : CoreForm) → IsPlace p body form → IsPlace (with_texts p texts) body form
   with-place texts _ fits.a_local = fits.a_local
   with-place texts _ fits.an_element = fits.an_element
   with-place texts _ (fits.a_field there blank) = fits.a_field there blank

@@ -29,8 +29,8 @@ use Rattle.typing_laws.proofs.Operators.{as-operand, is-number}
 use Rattle.typing_laws.proofs.Subtypes.{erased_base, parts}
 
 -- an array type, and that of its elements
-record IsArray (heads : List ClassHead) (t e : SourceType) : Type 0 where
-  is : erased heads t ≡ array_of (erased heads e)
+pub record IsArray (heads : List ClassHead) (t e : SourceType) : Type 0 where
+  pub is : erased heads t ≡ array_of (erased heads e)
 
 module _ (heads : List ClassHead) (bounds : BoundsFit heads) where
   array-parts : (t e : SourceType) (n : ℕ) → element_of t ≡ element_of e → dims_of t ≡ suc n → dims_of e ≡ n → dims_of t ≤ 255 → IsArray heads t e
@@ -45,7 +45,7 @@ module _ (heads : List ClassHead) (bounds : BoundsFit heads) where
       fewer : (m : ℕ) → suc m ≤ 255 → m ≤ 255
       fewer m h = omega (arith, h)
 
-  element-is : (t e : SourceType) → element_type t ≡ Some e → dims_of t ≤ 255 → IsArray heads t e
+  pub element-is : (t e : SourceType) → element_type t ≡ Some e → dims_of t ≤ 255 → IsArray heads t e
   element-is (plain b (suc n)) e h few = let q : plain b n ≡ e = same_Some (plain b n) e h in subst (IsArray heads (plain b (suc n))) q (array-parts (plain b (suc n)) (plain b n) n refl refl refl few)
   element-is (of_class c ts (suc n)) e h few = let q : of_class c ts n ≡ e = same_Some (of_class c ts n) e h in subst (IsArray heads (of_class c ts (suc n))) q (array-parts (of_class c ts (suc n)) (of_class c ts n) n refl refl refl few)
   element-is (of_variable c at (suc n)) e h few = let q : of_variable c at n ≡ e = same_Some (of_variable c at n) e h in subst (IsArray heads (of_variable c at (suc n))) q (array-parts (of_variable c at (suc n)) (of_variable c at n) n refl refl refl few)
@@ -53,7 +53,7 @@ module _ (heads : List ClassHead) (bounds : BoundsFit heads) where
   element-is (of_class c ts zero) e h few = absurd (none-some e h)
   element-is (of_variable c at zero) e h few = absurd (none-some e h)
 
-int-operand : (s : SourceType) → is_int_if (promoted s) ≡ true → Operand s base.Int
+pub int-operand : (s : SourceType) → is_int_if (promoted s) ≡ true → Operand s base.Int
 int-operand s h = by (promoted s) refl h
   where
     by : (o : Option Base) → promoted s ≡ o → is_int_if o ≡ true → Operand s base.Int

@@ -27,10 +27,10 @@ use Rattle.typing_laws.specs.Laws.{LiteralsFit}
 use Rattle.typing_laws.proofs.Nodes.{erased-plain, no-uses}
 use Rattle.typing_laws.proofs.Values.{HasType}
 
-int-typed : (z : ℤ) → HasType (of base.Int) (int_value z)
+pub int-typed : (z : ℤ) → HasType (of base.Int) (int_value z)
 int-typed z = bool_cases (λ b. HasType (of base.Int) (if b then Some (value.Int z) else None)) _ (λ e. refl) (λ e. tt)
 
-long-typed : (z : ℤ) → HasType (of base.Long) (long_value z)
+pub long-typed : (z : ℤ) → HasType (of base.Long) (long_value z)
 long-typed z = bool_cases (λ b. HasType (of base.Long) (if b then Some (value.Long z) else None)) _ (λ e. refl) (λ e. tt)
 
 module _ (p : CoreProgram) (body : Body) (heads : List ClassHead) where

@@ -39,7 +39,7 @@ same-class {c = c} e = ap (λ b. class_or c b) e
     class_or c (base.Class d) = d
     class_or c b = c
 
-from-map : {A B : Type 0} (f : A → B) (xs : List A) (u : B) → Contains (map f xs) u → (w : A) × Contains xs w × (f w ≡ u)
+pub from-map : {A B : Type 0} (f : A → B) (xs : List A) (u : B) → Contains (map f xs) u → (w : A) × Contains xs w × (f w ≡ u)
 from-map f [] u q = absurd (contains-none u q)
 from-map f (x ∷ xs) u q = by_either (λ e. (x, contains-here x xs, e)) (λ r. let k = from-map f xs u r in (k.0, contains-later x k.0 xs k.1, k.2)) (contains-cases (f x) u (map f xs) q)
 
@@ -59,19 +59,19 @@ module _ (heads : List ClassHead) where
   abbrev pub erased_base : SourceType → Base
   erased_base t = (erased heads t).base
 
-  within-class : (steps c : ℕ) (ts : SourceTypes) (n : ℕ) → erased_within heads steps (of_class c ts n) ≡ record { base = base.Class (class_numbered c); dims = n }
+  pub within-class : (steps c : ℕ) (ts : SourceTypes) (n : ℕ) → erased_within heads steps (of_class c ts n) ≡ record { base = base.Class (class_numbered c); dims = n }
   within-class zero c ts n = refl
   within-class (suc k) c ts n = refl
 
-  within-plain : (steps : ℕ) (b : Base) (n : ℕ) → erased_within heads steps (plain b n) ≡ record { base = b; dims = n }
+  pub within-plain : (steps : ℕ) (b : Base) (n : ℕ) → erased_within heads steps (plain b n) ≡ record { base = b; dims = n }
   within-plain zero b n = refl
   within-plain (suc k) b n = refl
 
-  class-base : (c : ℕ) (ts : SourceTypes) (n : ℕ) → erased_base (of_class c ts n) ≡ base.Class (class_numbered c)
+  pub class-base : (c : ℕ) (ts : SourceTypes) (n : ℕ) → erased_base (of_class c ts n) ≡ base.Class (class_numbered c)
   unfolding erased
   class-base c ts n = ap (λ (u : Ty). u.base) (within-class (variable_count heads) c ts n)
 
-  plain-base : (b : Base) (n : ℕ) → erased_base (plain b n) ≡ b
+  pub plain-base : (b : Base) (n : ℕ) → erased_base (plain b n) ≡ b
   unfolding erased
   plain-base b n = ap (λ (u : Ty). u.base) (within-plain (variable_count heads) b n)
 
@@ -112,12 +112,12 @@ module _ (heads : List ClassHead) (bounds : BoundsFit heads) where
 module _ (p : CoreProgram) (heads : List ClassHead) (known : HasHeads p heads) where
   -- ---- ways upwards
 
-  record IsBelow (c : ClassId) (t : SourceType) : Type 0 where
-    class : ClassId
-    is : erased_base heads t ≡ base.Class class
-    way : Below p c class
+  pub record IsBelow (c : ClassId) (t : SourceType) : Type 0 where
+    pub class : ClassId
+    pub is : erased_base heads t ≡ base.Class class
+    pub way : Below p c class
 
-  above-below : {s t : SourceType} → Above heads s t → (c : ClassId) → erased_base heads s ≡ base.Class c → IsBelow c t
+  pub above-below : {s t : SourceType} → Above heads s t → (c : ClassId) → erased_base heads s ≡ base.Class c → IsBelow c t
   above-below here c e = record { class = c; is = e; way = same }
   above-below {s = of_class d args zero} (up {u = u} q r) c e =
       let w = from-map (substituted d args) (supers_of heads d) u q in
@@ -163,7 +163,7 @@ module _ (p : CoreProgram) (heads : List ClassHead) (known : HasHeads p heads) w
   class-reference base.Null h = absurd cc
   class-reference base.Void h = absurd cc
 
-  variable-base : (c at n : ℕ) → is_class_base (erased_base heads (of_variable c at n)) ≡ true
+  pub variable-base : (c at n : ℕ) → is_class_base (erased_base heads (of_variable c at n)) ≡ true
   unfolding erased
   variable-base c at n = variable-class heads known.bounds (variable_count heads) c at n
 
