@@ -1,0 +1,25 @@
+pub mod Below
+pub mod Sound
+pub mod Gives
+pub mod Taken
+pub mod Instances
+pub mod Paths
+pub mod Fields
+pub mod Places
+pub mod Variables
+pub mod Names
+pub mod Accesses
+pub mod Qualified
+pub mod ArraysMade
+pub mod Lists
+pub mod Methods
+pub mod Bounded
+pub mod Passed
+pub mod Candidates
+pub mod Calls
+pub mod Captured
+pub mod Creations
+pub mod StepTypes
+pub mod Targets
+pub mod Walk
+mod Rows

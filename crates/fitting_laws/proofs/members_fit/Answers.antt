@@ -1,0 +1,5 @@
+use Rattle.fitting_laws.proofs.Qualified.{members_fit}
+use Rattle.fitting_laws.proofs.members_fit.Goals as goal
+
+pub returns : goal.returns
+returns c = members_fit

@@ -1,0 +1,9 @@
+pub mod Sound
+pub mod Represented
+pub mod Values
+pub mod Names
+pub mod ArraysMade
+pub mod Methods
+pub mod Calls
+pub mod Creations
+pub mod Walk
