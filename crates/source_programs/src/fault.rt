@@ -14,7 +14,7 @@ pub enum FrontFault {
     /// The first finding of the first phase that has one.
     Found(Finding),
     /// The sources have no finding, but of their core program the member of that name of the class, or the class itself
-    /// under its own name, doesn't fit. No sources are known for which this comes.
+    /// under its own name, doesn't fit. It is to go: `docs/DECISIONS.md` says for which sources it comes.
     Misfit(ClassId, NameId),
 }
 
