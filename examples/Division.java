@@ -1,1 +1,11 @@
-class Division { static int main() { return 1 / 2; } }
+class Division {
+    static final int HALF = 1 / zero();
+
+    static int zero() {
+        return 0;
+    }
+
+    static int main() {
+        return HALF;
+    }
+}

@@ -14,6 +14,8 @@ use Rattle.variable_sets.specs.Sets.{Set, everything, both}
 use Rattle.assignment_rules.specs.declared.rules.Rule.{Rule}
 use Rattle.assignment_rules.specs.declared.rules.Rule.TheVariants.{Assigned, Unassigned}
 use Rattle.assigned_expressions.specs.Places.{at_of, variable_in, variable_of}
+use Rattle.assignment_rules.specs.declared.sites.Site.TheVariants.{Creation}
+use Rattle.assigned_expressions.specs.Reads.{read_faults, standing_faults}
 use Rattle.assignment_rules.specs.Rules.{Follow, marking}
 
 -- those after an expression; after some boolean ones they depend on the value
@@ -62,12 +64,6 @@ after_choice chosen other = split (both (when_true chosen) (when_true other)) (b
 abbrev pub assigning : Rule → Option ℕ → Set → Set
 assigning rule None a = a
 assigning rule (Some v) a = marking rule v a
-
--- 16: what is read is assigned before.
-abbrev pub read_faults : Rule → Span → Set → Option ℕ → Faults
-read_faults rule at b None = none
-read_faults Assigned at b (Some v) = fault_where (not (b.has v)) kind.NotAssigned at
-read_faults Unassigned at b (Some v) = none
 
 -- 16: a final variable that is assigned is unassigned before.
 abbrev pub assign_faults : Rule → Set → Span → Set → Option ℕ → Faults
@@ -158,7 +154,9 @@ module _ (f : Follow) where
     form_faults at b (core.Concat left right) = faults b left ∪ faults (whole (after b left)) right
     form_faults at b (core.CallVirtual receiver class method args) = faults b receiver ∪ all_faults (whole (after b receiver)) args
     form_faults at b (core.CallExact receiver class method args) = maybe_faults b receiver ∪ all_faults (maybe_past b receiver) args
-    form_faults at b (core.New class method args captures word) = all_faults b args
+    -- 16: V is assigned before the body of an anonymous class where it is after the arguments.
+    form_faults at b (core.New class method args captures word) =
+        all_faults b args ∪ standing_faults f.rule (Creation class) (all_past b args) f.standing
     form_faults at b (core.NewArray lengths) = all_faults b lengths
     form_faults at b (core.ArrayOf values) = all_faults b values
 

@@ -1,4 +1,5 @@
 pub mod Places
+pub mod Reads
 pub mod Expressions
 pub mod Untouched
 pub mod View

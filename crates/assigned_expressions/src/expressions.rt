@@ -7,12 +7,14 @@ ghost use Rattle.je_core.specs.View.{view, form_view, views, view_if};
 ghost use Rattle.flow_base.specs.way.Kept.{first_of};
 ghost use Rattle.variable_sets.specs.Sets.{both};
 ghost use Rattle.variable_sets.specs.SetView.{set_view};
-ghost use Rattle.assigned_expressions.specs.Expressions.{plain, split, whole as the_whole, when_true, when_false, after_constant, after_unary, after_choice, assigning, read_faults, assign_faults, after, form_after, all_past, maybe_past, place_past, place_form_past, faults, form_faults, all_faults, maybe_faults, place_faults, place_form_faults};
+ghost use Rattle.assigned_expressions.specs.Expressions.{plain, split, whole as the_whole, when_true, when_false, after_constant, after_unary, after_choice, assigning, assign_faults, after, form_after, all_past, maybe_past, place_past, place_form_past, faults, form_faults, all_faults, maybe_faults, place_faults, place_form_faults};
+ghost use Rattle.assigned_expressions.specs.Reads.{read_faults};
 ghost use Rattle.assignment_rules.specs.View.{follow_view};
 ghost use Rattle.assigned_expressions.specs.View.{after_view};
 
 use crate::places::{variable_in, variable_of};
-use assignment_rules::{Follow, Rule, marked};
+use crate::reads::{test_read, test_standing};
+use assignment_rules::{Follow, Rule, Site, marked};
 use flow_base::{FaultKind, FirstFault, constant_in_form};
 use je_core::{Expr, Form, Memory, Span, UnOp};
 use std::alloc::Global;
@@ -166,9 +168,12 @@ fn walk_form(
             let past = walk_maybe(alloc, follow, receiver, before, found)?;
             Ok(After::Plain(walk_all(alloc, follow, args, past, found)?))
         }
-        Form::New { args: parts, .. }
-        | Form::NewArray { lengths: parts }
-        | Form::ArrayOf { values: parts } => {
+        Form::New { class, args, .. } => {
+            let past = walk_all(alloc, follow, args, before, found)?;
+            test_standing(follow, Site::Creation { class: *class }, &past, found);
+            Ok(After::Plain(past))
+        }
+        Form::NewArray { lengths: parts } | Form::ArrayOf { values: parts } => {
             Ok(After::Plain(walk_all(alloc, follow, parts, before, found)?))
         }
     }
@@ -285,19 +290,6 @@ fn read(
         test_read(rule, variable, at, &before, found);
     }
     After::Plain(before)
-}
-
-fn test_read(rule: Rule, variable: usize, at: Span, before: &Variables, found: &mut FirstFault)
-    ensures { found.new ≡
-        first_of found.old (read_faults rule at (set_view before.now) (Some variable)) }
-{
-    match rule {
-        Rule::Assigned => {
-            let is_assigned = before.has(variable);
-            found.add_where(!is_assigned, FaultKind::NotAssigned, at);
-        }
-        Rule::Unassigned => {}
-    }
 }
 
 // Assigns the variable that a place names, if it names one.

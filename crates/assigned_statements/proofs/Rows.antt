@@ -6,8 +6,9 @@ use Rattle.je_base.specs.declared.span.Span.{Span}
 use Rattle.je_core.specs.declared.types.Base.TheVariants as base
 use Rattle.je_core.specs.declared.types.Ty.{Ty}
 use Rattle.je_core.specs.declared.value.Value.TheVariants as value
-use Rattle.je_core.specs.Core.{Core, CoreForm, CoreStmt, CoreStmtForm, node, no_core, stmt, core_stmts, no_stmt, a_stmt, no_catches, more_catches, catch}
+use Rattle.je_core.specs.Core.{Core, CoreForm, CoreStmt, CoreStmtForm, CoreGroup, node, no_core, cores, stmt, core_stmts, no_stmt, a_stmt, group, core_groups, no_catches, more_catches, catch}
 use Rattle.je_core.specs.Core as core
+use Rattle.captured_reads.specs.Standing.{Standing}
 use Rattle.flow_base.specs.declared.faults.FaultKind.TheVariants as kind
 use Rattle.flow_base.specs.declared.faults.FlowFault.{FlowFault}
 use Rattle.flow_base.specs.way.Kept.{first_of}
@@ -56,7 +57,7 @@ break = s (core.Jump false None)
 
 -- `{ final int x; .. }`
 abbrev first : Rule → List CoreStmt → Option FlowFault
-first rule ss = first_of None (statement_faults (record { rule = rule; home = None; finals = everything }) None (none_marked rule) (s (core.Block (0 ∷ []) (core_stmts ss))))
+first rule ss = first_of None (statement_faults (record { rule = rule; home = None; finals = everything; standing = [] }) None (none_marked rule) (s (core.Block (0 ∷ []) (core_stmts ss))))
 
 abbrev not_assigned : ℕ → Option FlowFault
 not_assigned n = Some (record { kind = kind.NotAssigned; span = place n })
@@ -159,3 +160,65 @@ row-19 = refl
 row-20 : first Unassigned (leaving (s (core.Jump false (Some a)) ∷ [])) ≡ assigned_twice 2
 unfolding both adding removing everything no_exits exit_by met beyond limited whole when_true when_false
 row-20 = refl
+
+-- The class C reads `x` at 90, and stands in a list of statements or behind `new`: `{ int x; .. }`, where the bracket is at 0
+abbrev reader : ℕ → Option Span → Standing
+reader n home = record { class = record { 0 = 3 }; span = place n; home = home; reads = record { local = 0; span = place 90 } ∷ [] }
+
+abbrev judged : Standing → List CoreStmt → Option FlowFault
+judged c ss = first_of None (statement_faults (record { rule = Assigned; home = None; finals = nothing; standing = c ∷ [] }) None nothing
+    (s (core.Block (0 ∷ []) (core_stmts ss))))
+
+abbrev at : ℕ → CoreStmtForm → CoreStmt
+at n form = stmt form (place n) (place n)
+
+abbrev assign_at : ℕ → CoreStmt
+assign_at n = at n (core.Do (assigning n))
+
+-- `class C { .. } x = 1;`, and `x = 1; class C { .. }`
+row-21 : judged (reader 2 (Some (place 0))) (assign_at 4 ∷ []) ≡ not_assigned 90
+unfolding nothing both adding removing everything no_exits met whole
+row-21 = refl
+
+row-22 : judged (reader 6 (Some (place 0))) (assign_at 4 ∷ []) ≡ None
+unfolding nothing both adding removing everything no_exits met whole
+row-22 = refl
+
+-- `while (b) { x = 1; class C { .. } }`, and with the class behind the loop
+abbrev turning : CoreStmt
+turning = at 2 (core.Loop test [] (at 3 (core.Block [] (core_stmts (assign_at 4 ∷ [])))))
+
+row-23 : judged (reader 6 (Some (place 3))) (turning ∷ []) ≡ None
+unfolding nothing both adding removing everything no_exits met beyond whole when_true when_false
+row-23 = refl
+
+row-24 : judged (reader 8 (Some (place 0))) (turning ∷ []) ≡ not_assigned 90
+unfolding nothing both adding removing everything no_exits met beyond whole when_true when_false
+row-24 = refl
+
+-- `new C() { .. };`, and `new C(x = 1) { .. };`
+abbrev creating : List Core → CoreStmt
+creating args = at 2 (core.Do (e 2 (core.New (record { 0 = 3 }) 0 (cores args) [] (place 2))))
+
+row-25 : judged (reader 2 None) (creating [] ∷ []) ≡ not_assigned 90
+unfolding nothing both adding removing everything no_exits met whole
+row-25 = refl
+
+row-26 : judged (reader 2 None) (creating (assigning 4 ∷ []) ∷ []) ≡ None
+unfolding nothing both adding removing everything no_exits met whole
+row-26 = refl
+
+-- `switch (b) { case 1: x = 1; class C { .. } case 2: x = 1; }`, and with the class behind the second label
+abbrev labelled : ℕ → List CoreStmt → CoreGroup
+labelled n ss = group (record { value = Some (pos n); uses = []; span = place n } ∷ []) (core_stmts ss)
+
+abbrev switching : CoreStmt
+switching = at 2 (core.Switch [] test (core_groups (labelled 4 (assign_at 6 ∷ []) ∷ labelled 10 (assign_at 14 ∷ []) ∷ [])))
+
+row-27 : judged (reader 8 (Some (place 4))) (switching ∷ []) ≡ None
+unfolding nothing both adding removing everything no_exits met beyond whole
+row-27 = refl
+
+row-28 : judged (reader 12 (Some (place 10))) (switching ∷ []) ≡ not_assigned 90
+unfolding nothing both adding removing everything no_exits met beyond whole
+row-28 = refl

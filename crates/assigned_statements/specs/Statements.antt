@@ -1,9 +1,10 @@
 -- Which variables are definitely assigned, or definitely unassigned, after a statement, and before each exit of it by a jump, by
 -- those that are before it; and the faults in it (JLS 16.2). `label` is the label directly before a statement, `b` the set before.
 -- What is said of 'assigned' holds of both.
-use Rattle.std.specs.Prelude.{Option, Some, None, List}
+use Rattle.std.specs.Prelude.{ℕ, Option, Some, None, List, [], ◌∷◌}
 use Rattle.je_base.specs.declared.span.NameId.{NameId}
-use Rattle.je_core.specs.Core.{Core, CoreStmt, CoreStmtForm, CoreStmts, MaybeStmt, CoreGroups, CoreCatches, cores, stmt, no_stmts, more_stmts, no_stmt, a_stmt, group, no_groups, more_groups, catch, no_catches, more_catches}
+use Rattle.je_base.specs.declared.span.Span.{Span}
+use Rattle.je_core.specs.Core.{Core, CoreLabel, CoreStmt, CoreStmtForm, CoreStmts, MaybeStmt, CoreGroups, CoreCatches, cores, stmt, no_stmts, more_stmts, no_stmt, a_stmt, group, no_groups, more_groups, catch, no_catches, more_catches}
 use Rattle.je_core.specs.Core as core
 use Rattle.flow_base.specs.declared.jumps.Way.TheVariants.{Returns}
 use Rattle.flow_base.specs.Switches.{has_default}
@@ -11,10 +12,20 @@ use Rattle.flow_base.specs.FaultSets.{Faults, none, ◌∪◌}
 use Rattle.variable_sets.specs.Numbers.{local_number}
 use Rattle.variable_sets.specs.Sets.{Set, everything}
 use Rattle.variable_sets.specs.ExitSets.{no_exits, exit_by}
+use Rattle.assignment_rules.specs.declared.sites.Site.TheVariants.{Declaration}
 use Rattle.assignment_rules.specs.Rules.{Follow, marking, declared, entry, handled}
 use Rattle.assignment_rules.specs.Ends.{Ends, ends, going_on, jumping, one_of, in_turn, bottom, loop_ends, labelled_ends, entering, switch_ends, past_finally, jump_ends}
 use Rattle.assigned_statements.specs.Untouched.{statement_untouched, catches_untouched}
+use Rattle.assigned_expressions.specs.Reads.{standing_faults}
 use Rattle.assigned_expressions.specs.Expressions.{whole, when_true, when_false, after, all_past, faults, all_faults}
+
+-- the first byte of a statement, and of a group of a switch
+abbrev pub start_of : CoreStmt → ℕ
+start_of (stmt form span at) = span.start
+
+abbrev pub first_byte : List CoreLabel → Option ℕ
+first_byte [] = None
+first_byte (l ∷ ls) = Some l.span.start
 
 module _ (f : Follow) where
   abbrev pub value_past : Set → Option Core → Set
@@ -97,38 +108,46 @@ module _ (f : Follow) where
   abbrev pub do_turn : Option NameId → CoreStmt → Core → Set
   do_turn label body c = when_true (after f (bottom label (statement_ends None everything body)) c)
 
+  -- 16.2.3: V is assigned before a local class where it is after the statement before it, and the declaration changes nothing. A core
+  -- program has no statement for it: the class's span tells between which statements of a list it stands.
+  abbrev pub declared_faults : Option ℕ → ℕ → Option ℕ → Set → Faults
+  declared_faults None from to b = none
+  declared_faults (Some list) from to b = standing_faults f.rule (Declaration list from to) b f.standing
+
+  -- `list` is the first byte of the list of statements that a block or a group has, `from` that of the statement before.
   abbrev mutual
     pub statement_faults : Option NameId → Set → CoreStmt → Faults
-    statement_faults label b (stmt form span at) = form_faults label b form
+    statement_faults label b (stmt form span at) = form_faults label span b form
 
-    pub form_faults : Option NameId → Set → CoreStmtForm → Faults
-    form_faults label b core.Empty = none
-    form_faults label b (core.Block locals parts) = parts_faults (going_on (declared f.rule locals b)) parts
-    form_faults label b (core.Do e) = faults f b e
-    form_faults label b (core.If c chosen other) =
+    pub form_faults : Option NameId → Span → Set → CoreStmtForm → Faults
+    form_faults label span b core.Empty = none
+    form_faults label span b (core.Block locals parts) = parts_faults (Some span.start) 0 (going_on (declared f.rule locals b)) parts
+    form_faults label span b (core.Do e) = faults f b e
+    form_faults label span b (core.If c chosen other) =
         faults f b c ∪ statement_faults None (when_true (after f b c)) chosen ∪ part_faults (when_false (after f b c)) other
-    form_faults label b (core.Loop c steps body) =
+    form_faults label span b (core.Loop c steps body) =
         let e = entry f.rule b (loop_turn label c steps body) in
         let start = when_true (after f e c) in
         faults f e c ∪ statement_faults None start body ∪ all_faults f (bottom label (statement_ends None start body)) (cores steps)
-    form_faults label b (core.DoLoop body c) =
+    form_faults label span b (core.DoLoop body c) =
         let e = entry f.rule b (do_turn label body c) in
         statement_faults None e body ∪ faults f (bottom label (statement_ends None e body)) c
-    form_faults label b (core.Switch locals selector groups) =
+    form_faults label span b (core.Switch locals selector groups) =
         faults f b selector ∪ groups_faults (declared f.rule locals (whole (after f b selector))) (jumping no_exits) groups
-    form_faults label b (core.Labelled name body) = statement_faults (Some name) b body
-    form_faults label b (core.Jump again target) = none
-    form_faults label b (core.Return value) = value_faults b value
-    form_faults label b (core.Throw e) = faults f b e
-    form_faults label b (core.Try body catches last) =
+    form_faults label span b (core.Labelled name body) = statement_faults (Some name) b body
+    form_faults label span b (core.Jump again target) = none
+    form_faults label span b (core.Return value) = value_faults b value
+    form_faults label span b (core.Throw e) = faults f b e
+    form_faults label span b (core.Try body catches last) =
         let start = handled f.rule b (statement_untouched f.home everything body) in
         statement_faults None b body ∪ catches_faults start catches
         ∪ part_faults (handled f.rule start (catches_untouched f.home everything catches)) last
 
-    pub parts_faults : Ends → CoreStmts → Faults
-    parts_faults before no_stmts = none
-    parts_faults before (more_stmts s ss) =
-        statement_faults None before.after s ∪ parts_faults (in_turn before (statement_ends None before.after s)) ss
+    pub parts_faults : Option ℕ → ℕ → Ends → CoreStmts → Faults
+    parts_faults list from before no_stmts = declared_faults list from None before.after
+    parts_faults list from before (more_stmts s ss) =
+        declared_faults list from (Some (start_of s)) before.after ∪ statement_faults None before.after s
+        ∪ parts_faults list (start_of s) (in_turn before (statement_ends None before.after s)) ss
 
     pub part_faults : Set → MaybeStmt → Faults
     part_faults b no_stmt = none
@@ -138,7 +157,7 @@ module _ (f : Follow) where
     groups_faults start before no_groups = none
     groups_faults start before (more_groups (group labels parts) gs) =
         let first = ends (entering start labels before.after) before.exits in
-        parts_faults first parts ∪ groups_faults start (parts_end first parts) gs
+        parts_faults (first_byte labels) 0 first parts ∪ groups_faults start (parts_end first parts) gs
 
     pub catches_faults : Set → CoreCatches → Faults
     catches_faults b no_catches = none

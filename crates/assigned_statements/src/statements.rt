@@ -1,8 +1,8 @@
 // Definite assignment and unassignment in statements (JLS 16.2).
 
-ghost use Rattle.std.specs.Prelude.{◌≡◌, IfOk, OnOk, None, map};
+ghost use Rattle.std.specs.Prelude.{◌≡◌, IfOk, OnOk, None, Some, map};
 ghost use Rattle.je_core.specs.Core.{core_stmts, maybe_stmt, core_groups, core_catches, Loop as LoopForm, DoLoop as DoLoopForm, Switch as SwitchForm};
-ghost use Rattle.je_core.specs.View.{view, views, view_if, stmt_view, stmt_form_view, stmt_views, stmt_view_if, group_view, catch_view};
+ghost use Rattle.je_core.specs.View.{view, views, view_if, label_view, stmt_view, stmt_form_view, stmt_views, stmt_view_if, group_view, catch_view};
 ghost use Rattle.flow_base.specs.way.Kept.{first_of};
 ghost use Rattle.variable_sets.specs.SetView.{set_view};
 ghost use Rattle.variable_sets.specs.ExitSets.{no_exits, exit_by};
@@ -10,19 +10,19 @@ ghost use Rattle.flow_base.specs.declared.jumps.Way.TheVariants.{Returns};
 ghost use Rattle.assignment_rules.specs.Rules.{declared as the_declared};
 ghost use Rattle.assigned_expressions.specs.Expressions.{whole, when_true, when_false, after, faults};
 ghost use Rattle.assignment_rules.specs.Ends.{going_on as the_going_on, jumping as the_jumping};
-ghost use Rattle.assigned_statements.specs.Statements.{value_past, value_faults, statement_ends, form_ends, parts_end, part_ends, groups_end, catches_end, last_ends, statement_faults, form_faults, parts_faults, part_faults, groups_faults, catches_faults};
+ghost use Rattle.assigned_statements.specs.Statements.{start_of as the_start_of, first_byte as the_first_byte, declared_faults, value_past, value_faults, statement_ends, form_ends, parts_end, part_ends, groups_end, catches_end, last_ends, statement_faults, form_faults, parts_faults, part_faults, groups_faults, catches_faults};
 ghost use Rattle.assignment_rules.specs.View.{ends_view, follow_view};
-ghost use Rattle.assigned_statements.specs.way.Parts.{group_ends, group_faults, catch_ends, catch_faults};
+ghost use Rattle.assigned_statements.specs.way.Parts.{anywhere_faults, group_ends, group_faults, catch_ends, catch_faults};
 
 use crate::pairs::{enter_do, enter_loop};
 use crate::untouched::{before_catches, before_last};
-use assigned_expressions::{walk_all, walk_expression};
+use assigned_expressions::{test_standing, walk_all, walk_expression};
 use assignment_rules::{
-    Ends, Follow, bottom, declared, end_labelled, end_loop, end_switch, enter, going_on, jump,
-    jumping, marked, one_of, past_finally,
+    Ends, Follow, Site, bottom, declared, end_labelled, end_loop, end_switch, enter, going_on,
+    jump, jumping, marked, one_of, past_finally,
 };
 use flow_base::{FirstFault, Way, has_default};
-use je_core::{Catch, Expr, Group, Memory, NameId, Stmt, StmtForm};
+use je_core::{Catch, Expr, Group, Label, Memory, NameId, Span, Stmt, StmtForm};
 use std::alloc::Global;
 use std::rc::Rc;
 use variable_sets::{Exits, Variables, local_number};
@@ -45,7 +45,15 @@ pub fn walk_statement(
         (statement_faults (follow_view follow.now) label (set_view before)
         (stmt_view statement.now))) }
 {
-    walk_form(alloc, follow, &statement.form, label, before, found)
+    walk_form(
+        alloc,
+        follow,
+        &statement.form,
+        label,
+        statement.span,
+        before,
+        found,
+    )
 }
 
 #[cycle(walk)]
@@ -54,18 +62,19 @@ fn walk_form(
     follow: &Follow,
     form: &StmtForm,
     label: Option<NameId>,
+    span: Span,
     before: Variables,
     found: &mut FirstFault,
 ) -> Result<Ends, Memory>
     ensures ends { IfOk result (λ e. ends_view e ≡
         form_ends (follow_view follow.now) label (set_view before) (stmt_form_view form.now)) }
-    ensures faults { OnOk result (found.new ≡ first_of found.old
-        (form_faults (follow_view follow.now) label (set_view before) (stmt_form_view form.now))) }
+    ensures faults { OnOk result (found.new ≡ first_of found.old (form_faults
+        (follow_view follow.now) label span (set_view before) (stmt_form_view form.now))) }
 {
     match form {
         StmtForm::Empty => Ok(going_on(alloc, before)),
         StmtForm::Block { locals, parts } => {
-            walk_block(alloc, follow, parts, locals, before, found)
+            walk_block(alloc, follow, parts, span.start, locals, before, found)
         }
         StmtForm::Do { expr } => walk_do(alloc, follow, expr, before, found),
         StmtForm::If { condition, yes, no } => {
@@ -113,6 +122,7 @@ fn walk_block(
     alloc: Global,
     follow: &Follow,
     parts: &[Rc<Stmt>],
+    opening: u32,
     locals: &[u32],
     before: Variables,
     found: &mut FirstFault,
@@ -121,12 +131,19 @@ fn walk_block(
         (the_going_on (the_declared (follow_view follow.now).rule locals.now (set_view before)))
         (core_stmts (stmt_views parts.now))) }
     ensures faults { OnOk result (found.new ≡ first_of found.old
-        (parts_faults (follow_view follow.now)
+        (parts_faults (follow_view follow.now) (Some opening) 0
         (the_going_on (the_declared (follow_view follow.now).rule locals.now (set_view before)))
         (core_stmts (stmt_views parts.now)))) }
 {
     let fresh = declared(follow.rule, locals, before)?;
-    walk_parts(alloc, follow, parts, going_on(alloc, fresh), found)
+    walk_parts(
+        alloc,
+        follow,
+        parts,
+        Some(opening),
+        going_on(alloc, fresh),
+        found,
+    )
 }
 
 #[cycle(walk)]
@@ -143,7 +160,7 @@ fn walk_loop(
     ensures ends { IfOk result (λ e. ends_view e ≡ form_ends (follow_view follow.now) label
         (set_view before) (LoopForm (view condition.now) (views steps.now) (stmt_view body.now))) }
     ensures faults { OnOk result (found.new ≡ first_of found.old
-        (form_faults (follow_view follow.now) label (set_view before)
+        (anywhere_faults (follow_view follow.now) label (set_view before)
         (LoopForm (view condition.now) (views steps.now) (stmt_view body.now)))) }
 {
     let start = enter_loop(alloc, follow, body, condition, steps, label, before)?;
@@ -166,7 +183,7 @@ fn walk_do_loop(
     ensures ends { IfOk result (λ e. ends_view e ≡ form_ends (follow_view follow.now) label
         (set_view before) (DoLoopForm (stmt_view body.now) (view condition.now))) }
     ensures faults { OnOk result (found.new ≡ first_of found.old
-        (form_faults (follow_view follow.now) label (set_view before)
+        (anywhere_faults (follow_view follow.now) label (set_view before)
         (DoLoopForm (stmt_view body.now) (view condition.now)))) }
 {
     let start = enter_do(alloc, follow, body, condition, label, before)?;
@@ -190,7 +207,7 @@ fn walk_switch(
         (set_view before) (SwitchForm locals.now (view selector.now)
         (core_groups (map group_view groups.now)))) }
     ensures faults { OnOk result (found.new ≡ first_of found.old
-        (form_faults (follow_view follow.now) None (set_view before)
+        (anywhere_faults (follow_view follow.now) None (set_view before)
         (SwitchForm locals.now (view selector.now) (core_groups (map group_view groups.now))))) }
 {
     let past = walk_expression(alloc, follow, selector, before, found)?.whole()?;
@@ -200,29 +217,35 @@ fn walk_switch(
     end_switch(has_default(groups), start, inside)
 }
 
-// The statements of a block, behind what ends so.
+// The statements of a block or a group, whose first byte it is, behind what ends so.
 #[cycle(walk)]
 fn walk_parts(
     alloc: Global,
     follow: &Follow,
     parts: &[Rc<Stmt>],
+    list: Option<u32>,
     before: Ends,
     found: &mut FirstFault,
 ) -> Result<Ends, Memory>
     ensures ends { IfOk result (λ e. ends_view e ≡
         parts_end (follow_view follow.now) (ends_view before) (core_stmts (stmt_views parts.now))) }
     ensures faults { OnOk result (found.new ≡ first_of found.old
-        (parts_faults (follow_view follow.now) (ends_view before)
+        (parts_faults (follow_view follow.now) list 0 (ends_view before)
         (core_stmts (stmt_views parts.now)))) }
 {
     let mut done = before;
+    let mut from = 0;
     for part in parts {
+        let start = start_of(part);
+        test_declared(follow, list, from, Some(start), &done.after, found);
         let next = walk_statement(alloc, follow, part, None, done.after, found)?;
         done = Ends {
             after: next.after,
             exits: done.exits.met(next.exits)?,
         };
+        from = start;
     }
+    test_declared(follow, list, from, None, &done.after, found);
     Ok(done)
 }
 
@@ -288,7 +311,14 @@ fn walk_group(
         (group_view group.now))) }
 {
     let first = enter(&group.labels, start, before)?;
-    walk_parts(alloc, follow, &group.parts, first, found)
+    walk_parts(
+        alloc,
+        follow,
+        &group.parts,
+        first_byte(&group.labels),
+        first,
+        found,
+    )
 }
 
 // The catches of a `try`, beside what ends so.
@@ -357,6 +387,41 @@ fn walk_last(
             let last = walk_statement(alloc, follow, last, None, start, found)?;
             past_finally(follow.rule, before, last)
         }
+    }
+}
+
+// The first byte of a statement.
+#[tactic(auto, using(je_core::proofs::Views::stmt_view_is))]
+fn start_of(statement: &Stmt) -> u32
+    ensures { result ≡ the_start_of (stmt_view statement.now) }
+{
+    statement.span.start
+}
+
+// The first byte of a group of a switch.
+fn first_byte(labels: &[Label]) -> Option<u32>
+    ensures { result ≡ the_first_byte (map label_view labels.now) }
+{
+    match labels {
+        [] => None,
+        [first, ..] => Some(first.span.start),
+    }
+}
+
+// Adds the faults of the classes that are declared in a list of statements, between two of them.
+fn test_declared(
+    follow: &Follow,
+    list: Option<u32>,
+    from: u32,
+    to: Option<u32>,
+    before: &Variables,
+    found: &mut FirstFault,
+)
+    ensures { found.new ≡ first_of found.old
+        (declared_faults (follow_view follow.now) list from to (set_view before.now)) }
+{
+    if let Some(list) = list {
+        test_standing(follow, Site::Declaration { list, from, to }, before, found);
     }
 }
 

@@ -2,16 +2,18 @@
 -- followed differs in the steps below; all else is the same for both.
 use Rattle.std.specs.Prelude.{ℕ, Option, List, [], ◌∷◌}
 use Rattle.je_core.specs.declared.types.ClassId.{ClassId}
+use Rattle.captured_reads.specs.Standing.{Standing}
 use Rattle.assignment_rules.specs.declared.rules.Rule.{Rule}
 use Rattle.assignment_rules.specs.declared.rules.Rule.TheVariants.{Assigned, Unassigned}
 use Rattle.variable_sets.specs.Numbers.{local_number}
 use Rattle.variable_sets.specs.Sets.{Set, everything, nothing, both, adding, removing}
 
--- what is followed, the class whose fields are, and the variables that may be assigned only once
+-- what is followed, the class whose fields are, the variables that may be assigned only once, and the classes that stand in the body
 pub record Follow : Type 0 where
   pub rule : Rule
   pub home : Option ClassId
   pub finals : Set
+  pub standing : List Standing
 
 -- A variable that is assigned is assigned, and is no longer unassigned.
 abbrev pub marking : Rule → ℕ → Set → Set

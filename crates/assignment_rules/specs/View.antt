@@ -1,4 +1,6 @@
 -- What is followed, and what a statement leaves, as contracts see it.
+use Rattle.std.specs.Prelude.{map}
+use Rattle.captured_reads.specs.View.{standing_view}
 use Rattle.variable_sets.specs.SetView.{set_view}
 use Rattle.variable_sets.specs.ExitsView.{exits_view}
 use Rattle.assignment_rules.specs.declared.ends.Ends.{Ends as HeldEnds}
@@ -10,4 +12,4 @@ abbrev pub ends_view : HeldEnds → Ends
 ends_view e = ends (set_view e.after) (exits_view e.exits)
 
 abbrev pub follow_view : HeldFollow → Follow
-follow_view f = record { rule = f.rule; home = f.home; finals = set_view f.finals }
+follow_view f = record { rule = f.rule; home = f.home; finals = set_view f.finals; standing = map standing_view f.standing.items }

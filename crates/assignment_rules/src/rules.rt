@@ -4,12 +4,13 @@ ghost use Rattle.std.specs.Prelude.{◌≡◌, IfOk};
 ghost use Rattle.variable_sets.specs.SetView.{set_view};
 ghost use Rattle.assignment_rules.specs.Rules.{marking, declaring, declared as the_declared, none_marked as the_none_marked, all_marked as the_all_marked, entry, handled as the_handled};
 
+use captured_reads::Standing;
 use je_core::{ClassId, Memory};
 use std::alloc::Global;
 use variable_sets::{Variables, local_number};
 
 /// What is followed of variables (JLS 16).
-#[derive(Clone, Copy, PartialEq, Eq, Debug)]
+#[derive(Clone, Copy, PartialEq, Eq)]
 pub enum Rule {
     /// Which are definitely assigned. What is read is to be so before.
     Assigned,
@@ -25,6 +26,8 @@ pub struct Follow {
     pub home: Option<ClassId>,
     /// The variables that may be assigned only once.
     pub finals: Variables,
+    /// The classes that stand in the body. What they read of its locals is to be assigned before them.
+    pub standing: Vec<Standing>,
 }
 
 /// The set behind an assignment to a variable.

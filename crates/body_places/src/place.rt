@@ -20,7 +20,7 @@ pub struct LocalVariable {
 
 /// An initializer of a class or an instance, with how many fields of the class are declared before it; of a field's
 /// own initializer that field isn't one.
-#[derive(Clone, Copy, PartialEq, Eq, Debug)]
+#[derive(Clone, Copy, PartialEq, Eq)]
 pub struct Initializer {
     pub is_static: bool,
     pub declared: usize,

@@ -16,7 +16,7 @@ pub enum Constant {
 }
 
 /// A field in which an instance of a class keeps the value of a local of a body outside it.
-#[derive(Clone, Copy, PartialEq, Eq, Debug)]
+#[derive(Clone, Copy, PartialEq, Eq)]
 pub struct Captured {
     /// The class of the body.
     pub owner: ClassId,

@@ -7,17 +7,17 @@ use Rattle.je_core.specs.declared.value.Value.TheVariants as value
 use Rattle.je_core.specs.Core.{Assign, Const, CoreForm, Field, Static, no_core, node}
 use Rattle.je_ast.specs.declared.expr.Literal.TheVariants as literal
 use Rattle.je_ast.specs.declared.operator.BinaryOp.TheVariants.{Add, Multiply}
-use Rattle.je_ast.specs.declared.operator.PrefixOp.TheVariants.{Minus}
+use Rattle.je_ast.specs.declared.operator.PrefixOp.TheVariants.{Minus, Plus}
 use Rattle.je_ast.specs.Trees.{Expression}
 use Rattle.je_ast.specs.Trees as tree
 use Rattle.je_classes.specs.Hierarchy.{object_class, library_class}
 use Rattle.je_scopes.specs.Sites.{instance, static}
-use Rattle.je_typing.specs.declared.fault.TypeRule.TheVariants.{BadOperand, FinalAssign, LiteralRange, NotConvertible, UnknownName}
+use Rattle.je_typing.specs.declared.fault.TypeRule.TheVariants.{BadOperand, BadTarget, FinalAssign, LiteralRange, NotConvertible, UnknownName}
 use Rattle.je_typing.specs.Assignments.{assignment, place}
 use Rattle.je_typing.specs.Conversions.{assigned as assigned_to, converted}
 use Rattle.je_typing.specs.Judged.{Judged, bind, breaks, check, gives, need}
 use Rattle.je_typing.specs.Literals.{literal_of, number_literal}
-use Rattle.je_typing.specs.Operators.{binary, primitive_operation}
+use Rattle.je_typing.specs.Operators.{binary, plus, primitive_operation}
 use Rattle.je_typing.specs.Typed.{TypedNode}
 use Rattle.source_types.specs.Erasure.{erased, class_numbered}
 use Rattle.source_types.specs.Supertypes.{supertypes}
@@ -25,7 +25,7 @@ use Rattle.name_typing.specs.Fields.{find_field}
 use Rattle.name_typing.specs.Program.{Place}
 use Rattle.name_typing.specs.Variables.{assigned_name, not_forward, simple_name, taken, updated_name, variable_named, variable_node}
 use Rattle.call_typing.specs.Calls.{used}
-use Rattle.body_typing.specs.Expressions.{Known, expression, read}
+use Rattle.body_typing.specs.Expressions.{Known, expression, read, may_be_target}
 use Rattle.body_typing.specs.FinalVariables.{Scope, not_final}
 use Rattle.body_typing.specs.Mentions.{mentions, named}
 use Rattle.name_typing.proofs.Rows.Parts.{at, whole, id, in_body, in_initializer, in_local_class, this_of, int, int_node, ty, heads, classes, source, program}
@@ -94,21 +94,26 @@ abbrev set_x : Judged TypedNode
 set_x = assigns (Field (this_of 2 0) (class_numbered 2) 0) 0
 
 a_field : in_a (set (named_at 0)) ≡ set_x
-unfolding assigned_name variable_node variable_named assigned_to assignment place converted bind check need find_field erased supertypes program source heads classes object_class library_class used literal_of number_literal not_final
+unfolding assigned_name variable_node variable_named assigned_to assignment place converted bind check need find_field erased supertypes program source heads classes object_class library_class used literal_of number_literal not_final may_be_target
 a_field = refl
 
 in_brackets : in_a (set (tree.parens (named_at 0) (at 28))) ≡ set_x
-unfolding assigned_name variable_node variable_named assigned_to assignment place converted bind check need find_field erased supertypes program source heads classes object_class library_class used literal_of number_literal not_final
+unfolding assigned_name variable_node variable_named assigned_to assignment place converted bind check need find_field erased supertypes program source heads classes object_class library_class used literal_of number_literal not_final may_be_target
 in_brackets = refl
 
+-- `(+x) = 1`
+a_sum : in_a (set (tree.parens (tree.prefix Plus (at 27) (named_at 0) (at 28)) (at 29))) ≡ breaks BadTarget (at 29)
+unfolding assigned_name variable_node variable_named assigned_to assignment place converted bind check need find_field erased supertypes program source heads classes object_class library_class used literal_of number_literal not_final may_be_target plus simple_name updated_name not_forward taken
+a_sum = refl
+
 a_final_field : in_a (set (named_at 3)) ≡ breaks FinalAssign (at 3)
-unfolding assigned_name variable_node variable_named assigned_to assignment place converted bind check need find_field erased supertypes program source heads classes object_class library_class used literal_of number_literal not_final
+unfolding assigned_name variable_node variable_named assigned_to assignment place converted bind check need find_field erased supertypes program source heads classes object_class library_class used literal_of number_literal not_final may_be_target
 a_final_field = refl
 
 -- `k = true`
 value_first : in_a (tree.assign None (at 30) (named_at 3) (tree.literal (literal.Bool true) (at 31)) whole) ≡ breaks
     NotConvertible (at 31)
-unfolding assigned_name variable_node variable_named assigned_to assignment place converted bind check need find_field erased supertypes program source heads classes object_class library_class used literal_of number_literal not_final
+unfolding assigned_name variable_node variable_named assigned_to assignment place converted bind check need find_field erased supertypes program source heads classes object_class library_class used literal_of number_literal not_final may_be_target
 value_first = refl
 
 -- ---- a blank one, in a static initializer of A, in an instance initializer, and a final local that a class inside
@@ -119,16 +124,16 @@ set_k_in p = expression program (known true) (scope p) read (set (named_at 3))
 
 in_its_initializer : set_k_in (in_initializer true static 4)
     ≡ assigns (Static no_core (class_numbered 2) 3) 3
-unfolding assigned_name variable_node variable_named assigned_to assignment place converted bind check need find_field erased supertypes program source heads classes object_class library_class used literal_of number_literal not_final
+unfolding assigned_name variable_node variable_named assigned_to assignment place converted bind check need find_field erased supertypes program source heads classes object_class library_class used literal_of number_literal not_final may_be_target
 in_its_initializer = refl
 
 in_another_initializer : set_k_in (in_initializer false instance 4) ≡ breaks FinalAssign (at 3)
-unfolding assigned_name variable_node variable_named assigned_to assignment place converted bind check need find_field erased supertypes program source heads classes object_class library_class used literal_of number_literal not_final
+unfolding assigned_name variable_node variable_named assigned_to assignment place converted bind check need find_field erased supertypes program source heads classes object_class library_class used literal_of number_literal not_final may_be_target
 in_another_initializer = refl
 
 a_captured_local : expression program (known true) (scope (in_local_class true)) read (set (named_at 6)) ≡ breaks
     FinalAssign (at 6)
-unfolding assigned_name variable_node variable_named assigned_to assignment place converted bind check need find_field erased supertypes program source heads classes object_class library_class used literal_of number_literal not_final
+unfolding assigned_name variable_node variable_named assigned_to assignment place converted bind check need find_field erased supertypes program source heads classes object_class library_class used literal_of number_literal not_final may_be_target
 a_captured_local = refl
 
 -- ---- x + x.f(v)

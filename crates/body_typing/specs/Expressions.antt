@@ -26,12 +26,12 @@ use Rattle.je_scopes.specs.Sites.{Site, Written, behind_new}
 use Rattle.je_scopes.specs.SourceTypes.{SourceType, of_class, of_variable, plain, with_dims}
 use Rattle.declarations.specs.Declarations.{type_at}
 use Rattle.header_typing.specs.WrittenTypes as types
-use Rattle.je_typing.specs.declared.fault.TypeRule.TheVariants.{BadArray, UnknownName}
+use Rattle.je_typing.specs.declared.fault.TypeRule.TheVariants.{BadArray, BadTarget, UnknownName}
 use Rattle.je_typing.specs.Arrays.{Part, array_of, array_type, element, elements_if, elements_node, new_array}
 use Rattle.je_typing.specs.Assignments.{assignment, compound, stepped}
 use Rattle.je_typing.specs.Casts.{cast, instance_of}
 use Rattle.je_typing.specs.Conditionals.{choice}
-use Rattle.je_typing.specs.Judged.{Judged, gives, ◌>>=◌, ◌>>◌, breaks, need}
+use Rattle.je_typing.specs.Judged.{Judged, gives, ◌>>=◌, ◌>>◌, breaks, check, need}
 use Rattle.je_typing.specs.Literals.{literal_of, negative_int, negative_long, number_literal}
 use Rattle.je_typing.specs.Operators.{binary, plus, unary}
 use Rattle.je_typing.specs.Typed.{TypedNode, element_type}
@@ -111,6 +111,16 @@ prefix_purpose o = read
 abbrev pub target_purpose : Option BinaryOp → Purpose
 target_purpose None = assigned
 target_purpose (Some o) = updated
+
+-- ---- what is written as a variable (JLS 15.26): a name, a field or an element, in brackets or not
+
+abbrev pub is_variable : Expression → Bool
+is_variable (tree.name id) = true
+is_variable (tree.select e id span) = true
+is_variable (tree.super_select word id span) = true
+is_variable (tree.index e i span) = true
+is_variable (tree.parens e span) = is_variable e
+is_variable e = false
 
 -- ---- an integer literal directly behind a minus may be one more (JLS 3.10.1)
 
@@ -195,30 +205,40 @@ module _ (p : Program) (k : Known) (s : Scope) where
     c ← need UnknownName q.span (class_of_look (look_at p s.place.here q.parts))
     outer_this p s.place c q.span word
 
-  -- `target` isn't final, which is asked behind all else
-  abbrev pub assigned_by : TypedNode → Judged TypedNode → Judged TypedNode
-  assigned_by target assignment = do
-    t ← assignment
+  -- what is assigned is written as a variable, and isn't final
+  unfoldable pub may_be_target : Span → Bool → TypedNode → Judged (Unit {0})
+  may_be_target span is_variable target = do
+    check BadTarget span is_variable
     not_final p k.is_blank s target
+
+  -- so, which is asked behind all else
+  abbrev pub assigned_by : Span → Bool → TypedNode → Judged TypedNode → Judged TypedNode
+  assigned_by span is_variable target assignment = do
+    t ← assignment
+    may_be_target span is_variable target
     gives t
 
   abbrev pub assign_step : Option BinaryOp → Span → Span → Span → Span → TypedNode → TypedNode → Judged TypedNode
   assign_step None at left_span right_span span left right = assignment p.heads at left_span right_span span left right
-  assign_step (Some o) at left_span right_span span left right = compound o at left_span span left right
+  assign_step (Some o) at left_span right_span span left right = compound p.heads o at left_span span left right
 
   -- JLS 15.15
-  abbrev pub prefix_step : PrefixOp → Span → Span → Span → TypedNode → Judged TypedNode
-  prefix_step prefix_op.Plus at operand_span span t = plus at span t
-  prefix_step prefix_op.Minus at operand_span span t = unary unary_op.Minus at span t
-  prefix_step prefix_op.Not at operand_span span t = unary unary_op.Not at span t
-  prefix_step prefix_op.Tilde at operand_span span t = unary unary_op.Tilde at span t
-  prefix_step prefix_op.Increment at operand_span span t = assigned_by t (stepped Add false at operand_span span t)
-  prefix_step prefix_op.Decrement at operand_span span t = assigned_by t (stepped Sub false at operand_span span t)
+  abbrev pub step : BinOp → Bool → Span → Span → Bool → Span → TypedNode → Judged TypedNode
+  step o gives_old at operand_span is_variable span t =
+      assigned_by operand_span is_variable t (stepped o gives_old at operand_span span t)
 
-  abbrev pub prefixed : PrefixOp → Span → Span → Span → Judged TypedNode → Judged TypedNode
-  prefixed o at operand_span span judged = do
+  abbrev pub prefix_step : PrefixOp → Span → Span → Bool → Span → TypedNode → Judged TypedNode
+  prefix_step prefix_op.Plus at operand_span is_variable span t = plus at span t
+  prefix_step prefix_op.Minus at operand_span is_variable span t = unary unary_op.Minus at span t
+  prefix_step prefix_op.Not at operand_span is_variable span t = unary unary_op.Not at span t
+  prefix_step prefix_op.Tilde at operand_span is_variable span t = unary unary_op.Tilde at span t
+  prefix_step prefix_op.Increment at operand_span is_variable span t = step Add false at operand_span is_variable span t
+  prefix_step prefix_op.Decrement at operand_span is_variable span t = step Sub false at operand_span is_variable span t
+
+  abbrev pub prefixed : PrefixOp → Span → Span → Bool → Span → Judged TypedNode → Judged TypedNode
+  prefixed o at operand_span is_variable span judged = do
     t ← value judged
-    prefix_step o at operand_span span t
+    prefix_step o at operand_span is_variable span t
 
   -- ---- the walk
 
@@ -282,10 +302,10 @@ module _ (p : Program) (k : Known) (s : Scope) where
     expression purpose (tree.array_init es span) = breaks BadArray span
     -- JLS 15.14, 15.15
     expression purpose (tree.prefix o at e span) =
-        or_else (negative_literal o e span) (prefixed o at (written.span_of e) span (expression (prefix_purpose o) e))
+        or_else (negative_literal o e span) (prefixed o at (written.span_of e) (is_variable e) span (expression (prefix_purpose o) e))
     expression purpose (tree.postfix o at e span) = do
       t ← value (expression updated e)
-      assigned_by t (stepped (step_of o) true at (written.span_of e) span t)
+      step (step_of o) true at (written.span_of e) (is_variable e) span t
     -- JLS 15.16, 15.20.2
     expression purpose (tree.cast t e span) = do
       to ← bare_type p s.place.here t
@@ -310,7 +330,7 @@ module _ (p : Program) (k : Known) (s : Scope) where
     expression purpose (tree.assign o at e f span) = do
       target ← value (expression (target_purpose o) e)
       right ← value (expression read f)
-      assigned_by target (assign_step o at (written.span_of e) (written.span_of f) span target right)
+      assigned_by (written.span_of e) (is_variable e) target (assign_step o at (written.span_of e) (written.span_of f) span target right)
 
     pub values : Expressions → Judged (List TypedNode)
     values tree.no_expressions = gives []

@@ -1,7 +1,7 @@
 -- Statements (JLS 14): what each comes to, core statements, or the first fault. Parts come in the order in which they
 -- are written, before the whole: what is asked of a condition, a selector, a label or a catch comes behind all parts
 -- of its statement.
-use Rattle.std.specs.Prelude.{ℕ, ◌+◌, Bool, true, false, List, [], ◌∷◌, ◌++◌, Option, Some, None, if◌then◌else◌}
+use Rattle.std.specs.Prelude.{ℕ, ◌+◌, ◌-◌, Bool, true, false, List, [], ◌∷◌, ◌++◌, Option, Some, None, if◌then◌else◌}
 use Rattle.je_base.specs.declared.span.Span.{Span}
 use Rattle.je_core.specs.declared.types.Base.TheVariants as base
 use Rattle.je_core.specs.Core.{Core, CoreCatches, CoreStmt, MaybeStmt, Block, Empty, Labelled, Switch, Try, a_stmt, core_stmts, no_stmt, stmt}
@@ -60,6 +60,10 @@ start_of (Some id) word = id.span
 
 abbrev pub label_or_inside : Statement → CoreStmt → CoreStmt → CoreStmt
 label_or_inside b outside inside = if is_for b then inside else outside
+
+-- the closing bracket of a statement that ends with one
+abbrev pub last_byte : Span → Span
+last_byte span = record span { start = span.end - 1 }
 
 -- ---- parts of statements: their code, and what was met
 
@@ -164,11 +168,11 @@ module _ (p : Program) (k : Known) (returning : Returning) where
     gives (for_each_code label word e array n t id from body)
 
   -- JLS 14.11
-  abbrev pub switch_judged : Span → Expression → TypedNode → GroupsDone → Judged CoreStmt
-  switch_judged word e by gs = do
+  abbrev pub switch_judged : Span → Span → Expression → TypedNode → GroupsDone → Judged CoreStmt
+  switch_judged word span e by gs = do
     selector (written.span_of e) by.type
     groups ← groups_from p.heads by.type none_met gs.groups
-    gives (stmt (Switch gs.numbers by.node groups) word word)
+    gives (stmt (Switch gs.numbers by.node groups) word (last_byte span))
 
   abbrev pub return_judged : Scope → Span → MaybeExpression → Judged CoreStmt
   return_judged s word tree.no_expression = returned returning word
@@ -251,7 +255,7 @@ module _ (p : Program) (k : Known) (returning : Returning) where
     statement j label s pr (tree.switch word e gs span) = do
       t ← valued s e
       ds ← groups (in_switch j) (enum_of p.heads t.type) s (behind p s e pr) gs
-      code ← switch_judged word e (selected_by (enum_of p.heads t.type) t) ds
+      code ← switch_judged word span e (selected_by (enum_of p.heads t.type) t) ds
       gives (one code s ds.progress)
     -- JLS 14.15 to 14.18
     statement j label s pr (tree.break word to span) = do

@@ -97,7 +97,7 @@ fn add_made(
 }
 
 fn add_body<'a>(
-    bodies: Bodies,
+    bodies: &Bodies,
     scope: &Scope,
     word: Span,
     ty: &'a TyName,
@@ -105,7 +105,7 @@ fn add_body<'a>(
     met: &mut Vec<Met<'a>>,
 ) -> Result<(), Memory>
     ensures { OnOk result (map met_seen met.new.items ≡ map met_seen met.old.items ++
-        met_by (program_seen bodies.entry.calls.program) (scope_seen scope.now)
+        met_by (program_seen bodies.now.calls.program) (scope_seen scope.now)
         (made_with_body word (type_view ty.now) (views_of arguments.now))) }
 {
     let program = &bodies.calls.program;
@@ -125,13 +125,13 @@ fn add_body<'a>(
 #[cycle(walk)]
 #[tactic(auto, using(je_ast::proofs::Views::view_is))]
 pub fn add_met<'a>(
-    bodies: Bodies,
+    bodies: &Bodies,
     scope: &Scope,
     expr: &'a Expr,
     met: &mut Vec<Met<'a>>,
 ) -> Result<(), Memory>
     ensures { OnOk result (map met_seen met.new.items ≡ map met_seen met.old.items ++
-        met_in_expression (program_seen bodies.entry.calls.program) (scope_seen scope.now)
+        met_in_expression (program_seen bodies.now.calls.program) (scope_seen scope.now)
         (view expr.now)) }
 {
     add_met_here(bodies, scope, expr, met)
@@ -140,13 +140,13 @@ pub fn add_met<'a>(
 #[cycle(walk)]
 #[tactic(auto, using(crate::proofs::Adding::added))]
 fn add_met_here<'a>(
-    bodies: Bodies,
+    bodies: &Bodies,
     scope: &Scope,
     expr: &'a Expr,
     met: &mut Vec<Met<'a>>,
 ) -> Result<(), Memory>
     ensures { OnOk result (map met_seen met.new.items ≡ map met_seen met.old.items ++
-        met_in_expression (program_seen bodies.entry.calls.program) (scope_seen scope.now)
+        met_in_expression (program_seen bodies.now.calls.program) (scope_seen scope.now)
         (node_view expr.now)) }
 {
     match expr {
@@ -213,13 +213,13 @@ fn add_met_here<'a>(
 #[cycle(walk)]
 #[tactic(auto, using(crate::proofs::Adding::added))]
 pub fn add_all_met<'a>(
-    bodies: Bodies,
+    bodies: &Bodies,
     scope: &Scope,
     exprs: &'a [Expr],
     met: &mut Vec<Met<'a>>,
 ) -> Result<(), Memory>
     ensures { OnOk result (map met_seen met.new.items ≡ map met_seen met.old.items ++
-        flat_map (met_by (program_seen bodies.entry.calls.program) (scope_seen scope.now))
+        flat_map (met_by (program_seen bodies.now.calls.program) (scope_seen scope.now))
         (all_mentions (views_of exprs.now))) }
 {
     for expr in exprs {

@@ -208,7 +208,7 @@ pub fn head_call(
 }
 
 /// The spans of a creation: of the word `new`, of the name behind it, and of the whole.
-#[derive(Clone, Copy, PartialEq, Eq, Debug)]
+#[derive(Clone, Copy, PartialEq, Eq)]
 pub struct CreationSpans {
     pub word: Span,
     pub name: Span,

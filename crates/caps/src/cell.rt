@@ -9,7 +9,7 @@ use crate::request::{DeviceAnswer, Kind, Request};
 use planned_faults::Calls;
 
 /// A cell in memory: it keeps a number.
-#[derive(Debug, Drop)]
+#[derive(Drop)]
 pub struct MemoryCell {
     number: i64,
     calls: Calls,

@@ -9,7 +9,7 @@ use crate::request::{DeviceAnswer, Kind, Request};
 use planned_faults::Calls;
 
 /// A clock in memory: its time goes on by the same step with each answer, and wraps at 64 bits.
-#[derive(Debug, Drop)]
+#[derive(Drop)]
 pub struct MemoryClock {
     time: i64,
     step: i64,

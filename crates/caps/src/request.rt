@@ -3,7 +3,7 @@
 use je_base::Units;
 
 /// What a device is for.
-#[derive(Clone, Copy, PartialEq, Eq, Debug)]
+#[derive(Clone, Copy, PartialEq, Eq)]
 pub enum Kind {
     /// Prints texts.
     Console,

@@ -59,31 +59,35 @@ module _ (heads : List ClassHead) (classes : List DeclaredClass) (c : ℕ) where
 
   -- in whatever order the methods above come
   module _ (above : List Method) (same : HasSame above (methods_above heads classes c)) where
-    same-runs : (at : Place) (m : Method) → runs_at heads above at m ≡ words.runs_for_place heads classes c at m
+    same-runs : (at : Place) (m : Method) →
+        runs_at heads classes above at m ≡ words.runs_for_place heads classes c at m
     same-runs at m =
-        same.each (λ n. is-at at n && is_run_for heads n m)
+        same.each (λ n. is-at at n && is_run_for heads classes n m)
         ∙ (λ i. list_any (λ n. second-first (is-at at n) (is-instance n) (runs m n) i) (methods_above heads classes c))
         ∙ sym (any-filter (λ n. is-at at n && runs m n) is-instance (methods_above heads classes c))
 
-    found-for : (at : Place) (ms : List Method) → by_at heads above ms at ≡ option_map place_of (first-for at ms)
+    found-for : (at : Place) (ms : List Method) →
+        by_at heads classes above ms at ≡ option_map place_of (first-for at ms)
     found-for at ms = λ i. option_map place_of (find (λ m. same-runs at m i) ms)
 
     nothing-for : (ms : List Method) (at : Place) → list_any (is_same_place at) (map place_of all-instance) ≡ false →
-        by_at heads above ms at ≡ None
+        by_at heads classes above ms at ≡ None
     nothing-for ms at e =
         found-for at ms
         ∙ (λ i. option_map place_of (find (λ m. no-runs at m all-instance e i) ms))
         ∙ ap (option_map place_of) (find-none ms)
 
     pub all_bridges : (ms : List Method) (found : BTreeMap Place Place) → ms ≡ has_methods heads classes c →
-        IsOrdered place_order found → ((at : Place) → get place_order found at ≡ by_at heads above ms at) →
+        IsOrdered place_order found → ((at : Place) → get place_order found at ≡ by_at heads classes above ms at) →
         map bridge_of found.entries ≡ bridges heads classes c
     unfolding bridges
     all_bridges ms found e ordered finds =
-        made_in_order bridge_of (by_at heads above ms) found (map place_of all-instance) ordered finds (nothing-for ms)
+        made_in_order bridge_of (by_at heads classes above ms) found (map place_of all-instance) ordered finds
+        (nothing-for ms)
         ∙ (λ i. flat_map (λ at. made-here at i) (sorted (map place_of all-instance)))
       where
-        made-here : (at : Place) → made_at bridge_of (by_at heads above ms) at ≡ words.bridge_from heads classes c at
+        made-here : (at : Place) →
+            made_at bridge_of (by_at heads classes above ms) at ≡ words.bridge_from heads classes c at
         made-here at =
             ap (made_if bridge_of at) (found-for at ms ∙ ap (λ ns. option_map place_of (first-for at ns)) e)
             ∙ made-bridge at (first-for at (has_methods heads classes c))

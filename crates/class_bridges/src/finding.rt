@@ -3,14 +3,17 @@
 ghost use Rattle.std.specs.Prelude.{◌≡◌, ◌&&◌, ℕ, IfOk, OnOk, Some, map, unwrap_or, if◌then◌else◌};
 ghost use Rattle.std.specs.BTreeMap.{get};
 ghost use Rattle.std.specs.Ordering.{is_eq};
+ghost use Rattle.class_heads.specs.View.{classes_of};
 ghost use Rattle.class_methods.specs.View.{method_seen};
 ghost use Rattle.class_typing.specs.Bridges as words;
 ghost use Rattle.source_subtypes.specs.View.{heads_of};
-ghost use Rattle.class_bridges.specs.way.Found.{by_at, else_by, is_run_for as the_is_run_for, place_order, runs_at};
+ghost use Rattle.class_bridges.specs.way.Found.{by_at, else_by, has_body_beside_instance, place_order};
+ghost use Rattle.class_bridges.specs.way.Found.{is_run_for as the_is_run_for, runs_at};
 
-use class_methods::{Method, is_subsignature};
+use class_heads::AllClasses;
+use class_methods::{Method, have_one_name};
 use je_base::Memory;
-use override_steps::are_same_erased;
+use override_steps::{are_same_erased, is_override};
 use source_subtypes::ClassHeads;
 use std::alloc::Global;
 use std::collections::BTreeMap;
@@ -24,19 +27,37 @@ fn place_of(method: &Method) -> Place
     (method.holder.0, method.place)
 }
 
-// Whether one method runs for another one, which isn't static.
-fn is_run_for(heads: &ClassHeads, other: &Method, method: &Method) -> bool
-    ensures { result ≡ the_is_run_for (heads_of heads.now) (method_seen other.now)
+// Whether one method has a body, and its name and other erased parameter types beside another one, which isn't static.
+fn has_body_beside(heads: &ClassHeads, other: &Method, method: &Method) -> bool
+    ensures { result ≡ has_body_beside_instance (heads_of heads.now) (method_seen other.now)
         (method_seen method.now) }
 {
     !other.declared.flags.is_static
         && !(method.is_abstract || method.declared.flags.is_static)
-        && is_subsignature(heads, method, other)
+        && have_one_name(method, other)
         && !are_same_erased(
             heads,
             &method.declared.parameters,
             &other.declared.parameters,
         )
+}
+
+// Whether one method runs for another one, which isn't static. What stands above its class is looked up only where all
+// else is so.
+fn is_run_for(
+    alloc: Global,
+    heads: &ClassHeads,
+    classes: AllClasses,
+    other: &Method,
+    method: &Method,
+) -> Result<bool, Memory>
+    ensures { IfOk result (λ runs. runs ≡ the_is_run_for (heads_of heads.now)
+        (classes_of classes.entry) (method_seen other.now) (method_seen method.now)) }
+{
+    if !has_body_beside(heads, other, method) {
+        return Ok(false);
+    }
+    is_override(alloc, heads, classes, method, other)
 }
 
 // Adds what runs for the method at a place, unless something does already.
@@ -50,7 +71,9 @@ fn add(found: &mut BTreeMap<Place, Place>, at: Place, by: Place) -> Result<(), M
 }
 
 fn add_one(
+    alloc: Global,
     heads: &ClassHeads,
+    classes: AllClasses,
     method: &Method,
     other: &Method,
     found: &mut BTreeMap<Place, Place>,
@@ -58,10 +81,10 @@ fn add_one(
     ensures { OnOk result ((at : ℕ × ℕ) → get place_order found.new at ≡
         else_by (get place_order found.old at)
         (words.is_same_place at (words.place_of (method_seen other.now))
-        && the_is_run_for (heads_of heads.now) (method_seen other.now) (method_seen method.now))
-        (method_seen method.now)) }
+        && the_is_run_for (heads_of heads.now) (classes_of classes.entry) (method_seen other.now)
+        (method_seen method.now)) (method_seen method.now)) }
 {
-    if is_run_for(heads, other, method) {
+    if is_run_for(alloc, heads, classes, other, method)? {
         add(found, place_of(other), place_of(method))?;
     }
     Ok(())
@@ -69,18 +92,20 @@ fn add_one(
 
 // A method runs for all of these that it can run for and that nothing runs for yet.
 fn add_all(
+    alloc: Global,
     heads: &ClassHeads,
+    classes: AllClasses,
     method: &Method,
     above: &[Method],
     found: &mut BTreeMap<Place, Place>,
 ) -> Result<(), Memory>
     ensures { OnOk result ((at : ℕ × ℕ) → get place_order found.new at ≡
         else_by (get place_order found.old at)
-        (runs_at (heads_of heads.now) (map method_seen above.now) at (method_seen method.now))
-        (method_seen method.now)) }
+        (runs_at (heads_of heads.now) (classes_of classes.entry) (map method_seen above.now) at
+        (method_seen method.now)) (method_seen method.now)) }
 {
     for other in above {
-        add_one(heads, method, other, found)?;
+        add_one(alloc, heads, classes, method, other, found)?;
     }
     Ok(())
 }
@@ -89,15 +114,17 @@ fn add_all(
 pub fn found(
     alloc: Global,
     heads: &ClassHeads,
+    classes: AllClasses,
     methods: &[Method],
     above: &[Method],
 ) -> Result<BTreeMap<Place, Place>, Memory>
     ensures { IfOk result (λ found. (at : ℕ × ℕ) → get place_order found at ≡
-        by_at (heads_of heads.now) (map method_seen above.now) (map method_seen methods.now) at) }
+        by_at (heads_of heads.now) (classes_of classes.entry) (map method_seen above.now)
+        (map method_seen methods.now) at) }
 {
     let mut found = BTreeMap::new(alloc);
     for method in methods {
-        add_all(heads, method, above, &mut found)?;
+        add_all(alloc, heads, classes, method, above, &mut found)?;
     }
     Ok(found)
 }

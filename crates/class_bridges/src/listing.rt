@@ -78,7 +78,7 @@ pub fn bridges(
 {
     let above = methods_above(alloc, heads, classes, class)?;
     let methods = has_methods(alloc, heads, classes, hierarchy, class)?;
-    let found = found(alloc, heads, &methods, &above)?;
+    let found = found(alloc, heads, classes, &methods, &above)?;
     let bridges = listed(alloc, &found)?;
     Ok(bridges)
 }

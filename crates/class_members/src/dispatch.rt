@@ -1,6 +1,6 @@
 // The method that an object of a class has for a method (JLS 8.4.8, 15.12.4.4).
 
-ghost use Rattle.std.specs.Prelude.{◌≡◌, Some, map, option_map};
+ghost use Rattle.std.specs.Prelude.{◌≡◌, Some, is_some, map, option_map};
 ghost use Rattle.je_core.specs.View.{method_view, class_view, program_view};
 ghost use Rattle.je_classes.specs.Hierarchy.{class_at};
 ghost use Rattle.je_classes.specs.Members.{method_of};
@@ -116,6 +116,14 @@ fn bridged(program: &Program, own: ClassId, class: ClassId, at: usize) -> Option
         None => None,
         Some(own) => bridged_in(&own.bridges, class, at),
     }
+}
+
+/// Whether a bridge of a class runs another method for the one at a place of a class.
+pub fn is_bridged(program: &Program, own: ClassId, class: ClassId, at: usize) -> bool
+    ensures { result ≡ is_some
+        (the_bridged (class_at (program_view program.now) own) (record { class = class; at = at })) }
+{
+    bridged(program, own, class, at).is_some()
 }
 
 // A member, unless its method is abstract.

@@ -7,7 +7,7 @@
 mod dispatch;
 mod members;
 
-pub use dispatch::{dispatched, implemented, same_signature};
+pub use dispatch::{dispatched, implemented, is_bridged, same_signature};
 pub use members::{
     field_at, is_hidden, is_private, method_at, names_constructors, same_class, same_name,
     same_type, same_types,

@@ -19,4 +19,4 @@ pub use declaring::{own, push_own};
 pub use erasures::{erasure, unbounded};
 pub use hierarchy::Hierarchy;
 pub use method::{Method, is_same_method, own_method};
-pub use signatures::{are_same_types, have_one_signature, is_subsignature};
+pub use signatures::{are_same_types, have_one_name, have_one_signature, is_subsignature};

@@ -16,7 +16,7 @@ use je_base::Memory;
 use je_core::ClassId;
 
 /// A local of a body of a class, and a class inside that body which captures it.
-#[derive(Clone, Copy, PartialEq, Eq, Hash, Debug)]
+#[derive(Clone, Copy, PartialEq, Eq, Hash)]
 pub struct Kept {
     pub class: ClassId,
     pub owner: ClassId,

@@ -58,7 +58,7 @@ use Rattle.class_typing.specs.Captures.{captured_locals, captures}
 use Rattle.class_typing.specs.ConstantFields.{constants_of, is_blank, library_constants}
 use Rattle.class_typing.specs.Constructors.{no_cycle}
 use Rattle.class_typing.specs.Elaboration.{elaborated}
-use Rattle.class_typing.specs.Members.{class_members}
+use Rattle.class_typing.specs.Members.{class_members, inner_static}
 use Rattle.class_typing.specs.Places.{in_body, round_met, round_class, round_without_locals}
 use Rattle.class_typing.specs.Programs.{classes, heads, plain_program}
 use Rattle.class_typing.specs.Enums.{constants_made}
@@ -204,7 +204,7 @@ a_constant_of_a_local_class : of_guests captured
     (tree.more_statements (tree.return (at 6) (tree.an_expression (number 1)) whole) tree.no_statements)))
     (at 20)) whole ∷ []) ∷ [])))
     ≡ gives ((0, []) ∷ (0, 9 ∷ 4 ∷ []) ∷ [])
-unfolding library_words class_words member_words further_words library_class object_class settled sites erased is_subtype supertypes declared_class converted assigned bind check need number_literal literal_of primitive_operation binary superinterface anonymous_super well_placed bounded methods_above inherited may_override good_override good_implementations all_implemented no_clash no_constructor_clash no_inherited_clash bad_modifier class_heads found_field static_field find_field name_before assigned_select select variable_named variable_node taken not_forward assigned_name updated_name simple_name used constructors_in constructor_for anonymous_creation superclass_constructor_call implicit_constructor_call choice chosen class_signatures signatures rows all_due library_declared declared_classes returned_value variable_constant bridges captured_locals captures is_blank constants_of library_constants no_cycle elaborated class_members in_body round_met round_class round_without_locals classes heads plain_program texts superclass own_constructor_call local_class next_label selector
+unfolding library_words class_words member_words further_words library_class object_class settled sites erased is_subtype supertypes declared_class converted assigned bind check need number_literal literal_of primitive_operation binary superinterface anonymous_super well_placed bounded methods_above inherited may_override good_override good_implementations all_implemented no_clash no_constructor_clash no_inherited_clash bad_modifier class_heads found_field static_field find_field name_before assigned_select select variable_named variable_node taken not_forward assigned_name updated_name simple_name used constructors_in constructor_for anonymous_creation superclass_constructor_call implicit_constructor_call choice chosen class_signatures signatures rows all_due library_declared declared_classes returned_value variable_constant bridges captured_locals captures is_blank constants_of library_constants no_cycle elaborated class_members in_body round_met round_class round_without_locals classes heads plain_program texts superclass own_constructor_call local_class next_label selector inner_static
 a_constant_of_a_local_class = refl
 
 -- ---- class A { static final int x = A.y + 1; static final int y = 2; }, and with A.x for 2
@@ -229,13 +229,13 @@ constants c = map is_constant c.fields
 by_a_later_one : of_guests constants
     (elaborated (program (class_a (constant 4 (next (of_a 5)) ∷ constant 5 (number 2) ∷ []) ∷ []))) ≡ gives
     ((true ∷ true ∷ []) ∷ [])
-unfolding library_words class_words member_words further_words library_class object_class settled sites erased is_subtype supertypes declared_class converted assigned bind check need number_literal literal_of primitive_operation binary superinterface anonymous_super well_placed bounded methods_above inherited may_override good_override good_implementations all_implemented no_clash no_constructor_clash no_inherited_clash bad_modifier class_heads found_field static_field find_field name_before assigned_select select variable_named variable_node taken not_forward assigned_name updated_name simple_name used constructors_in constructor_for anonymous_creation superclass_constructor_call implicit_constructor_call choice chosen class_signatures signatures rows all_due library_declared declared_classes returned_value variable_constant bridges captured_locals captures is_blank constants_of library_constants no_cycle elaborated class_members in_body round_met round_class round_without_locals classes heads plain_program texts superclass own_constructor_call
+unfolding library_words class_words member_words further_words library_class object_class settled sites erased is_subtype supertypes declared_class converted assigned bind check need number_literal literal_of primitive_operation binary superinterface anonymous_super well_placed bounded methods_above inherited may_override good_override good_implementations all_implemented no_clash no_constructor_clash no_inherited_clash bad_modifier class_heads found_field static_field find_field name_before assigned_select select variable_named variable_node taken not_forward assigned_name updated_name simple_name used constructors_in constructor_for anonymous_creation superclass_constructor_call implicit_constructor_call choice chosen class_signatures signatures rows all_due library_declared declared_classes returned_value variable_constant bridges captured_locals captures is_blank constants_of library_constants no_cycle elaborated class_members in_body round_met round_class round_without_locals classes heads plain_program texts superclass own_constructor_call inner_static
 by_a_later_one = refl
 
 by_each_other : of_guests constants
     (elaborated (program (class_a (constant 4 (next (of_a 5)) ∷ constant 5 (of_a 4) ∷ []) ∷ []))) ≡ gives
     ((false ∷ false ∷ []) ∷ [])
-unfolding library_words class_words member_words further_words library_class object_class settled sites erased is_subtype supertypes declared_class converted assigned bind check need number_literal literal_of primitive_operation binary superinterface anonymous_super well_placed bounded methods_above inherited may_override good_override good_implementations all_implemented no_clash no_constructor_clash no_inherited_clash bad_modifier class_heads found_field static_field find_field name_before assigned_select select variable_named variable_node taken not_forward assigned_name updated_name simple_name used constructors_in constructor_for anonymous_creation superclass_constructor_call implicit_constructor_call choice chosen class_signatures signatures rows all_due library_declared declared_classes returned_value variable_constant bridges captured_locals captures is_blank constants_of library_constants no_cycle elaborated class_members in_body round_met round_class round_without_locals classes heads plain_program texts superclass own_constructor_call
+unfolding library_words class_words member_words further_words library_class object_class settled sites erased is_subtype supertypes declared_class converted assigned bind check need number_literal literal_of primitive_operation binary superinterface anonymous_super well_placed bounded methods_above inherited may_override good_override good_implementations all_implemented no_clash no_constructor_clash no_inherited_clash bad_modifier class_heads found_field static_field find_field name_before assigned_select select variable_named variable_node taken not_forward assigned_name updated_name simple_name used constructors_in constructor_for anonymous_creation superclass_constructor_call implicit_constructor_call choice chosen class_signatures signatures rows all_due library_declared declared_classes returned_value variable_constant bridges captured_locals captures is_blank constants_of library_constants no_cycle elaborated class_members in_body round_met round_class round_without_locals classes heads plain_program texts superclass own_constructor_call inner_static
 by_each_other = refl
 
 -- ---- class A { A() { this(1); } A(int v) { this(); } }, and with `super()`
@@ -273,6 +273,87 @@ a_bridge : of_guests bridged (elaborated (program (
     ≡ gives (((0, 0) ∷ []) ∷ ((0, 0) ∷ []) ∷ [])
 unfolding library_words class_words member_words further_words library_class object_class settled sites erased is_subtype supertypes declared_class converted assigned bind check need number_literal literal_of primitive_operation binary superinterface anonymous_super well_placed bounded methods_above inherited may_override good_override good_implementations all_implemented no_clash no_constructor_clash no_inherited_clash bad_modifier class_heads found_field static_field find_field name_before assigned_select select variable_named variable_node taken not_forward assigned_name updated_name simple_name used constructors_in constructor_for anonymous_creation superclass_constructor_call implicit_constructor_call choice chosen class_signatures signatures rows all_due library_declared declared_classes returned_value variable_constant bridges captured_locals captures is_blank constants_of library_constants no_cycle elaborated class_members in_body round_met round_class round_without_locals classes heads plain_program texts superclass own_constructor_call
 a_bridge = refl
+
+-- class A<x> { int f(x v) { return 1; } B f(B v) { return v; } }  class B extends A<B> { }: neither overrides the
+-- other, so B, where both are f(B), has no bridge
+
+abbrev generic : List Member → Declaration
+generic ms =
+    tree.class_declaration [] (id 0 1) (record { name = id 4 50; bound = None } ∷ []) None no_types (members ms) whole
+
+abbrev a_of : ℕ → TypeName
+a_of x = named 0 34 (more_types (named x 35 no_types) no_types)
+
+no_bridges_between_inherited_ones : of_guests bridged (elaborated (program (
+    generic (returns [] int 2 (formal (named 4 51 no_types) false ∷ []) (number 1)
+    ∷ returns [] (named 1 52 no_types) 2 (formal (named 1 53 no_types) false ∷ []) (name_at 3 54) ∷ [])
+    ∷ class 1 33 (Some (a_of 1)) no_types [] ∷ [])))
+    ≡ gives ([] ∷ [] ∷ [])
+unfolding library_words class_words member_words further_words library_class object_class settled sites erased is_subtype supertypes declared_class converted assigned bind check need number_literal literal_of primitive_operation binary superinterface anonymous_super well_placed bounded methods_above inherited may_override good_override good_implementations all_implemented no_clash no_constructor_clash no_inherited_clash bad_modifier class_heads found_field static_field find_field name_before assigned_select select variable_named variable_node taken not_forward assigned_name updated_name simple_name used constructors_in constructor_for anonymous_creation superclass_constructor_call implicit_constructor_call choice chosen class_signatures signatures rows all_due library_declared declared_classes returned_value variable_constant bridges captured_locals captures is_blank constants_of library_constants no_cycle elaborated class_members in_body round_met round_class round_without_locals classes heads plain_program texts superclass own_constructor_call
+no_bridges_between_inherited_ones = refl
+
+-- class A<x> { int f(x v) { return 1; } }  class B extends A<B> { int f(B v) { return 1; } }  class y extends B { }: f
+-- of B overrides that of A, with a body as it is, in B and in y
+
+an_inherited_bridge : of_guests bridged (elaborated (program (
+    generic (returns [] int 2 (formal (named 4 51 no_types) false ∷ []) (number 1) ∷ [])
+    ∷ class 1 33 (Some (a_of 1)) no_types
+    (returns [] int 2 (formal (named 1 53 no_types) false ∷ []) (number 1) ∷ [])
+    ∷ class 5 55 (Some (named 1 56 no_types)) no_types [] ∷ [])))
+    ≡ gives ([] ∷ ((0, 0) ∷ []) ∷ ((0, 0) ∷ []) ∷ [])
+unfolding library_words class_words member_words further_words library_class object_class settled sites erased is_subtype supertypes declared_class converted assigned bind check need number_literal literal_of primitive_operation binary superinterface anonymous_super well_placed bounded methods_above inherited may_override good_override good_implementations all_implemented no_clash no_constructor_clash no_inherited_clash bad_modifier class_heads found_field static_field find_field name_before assigned_select select variable_named variable_node taken not_forward assigned_name updated_name simple_name used constructors_in constructor_for anonymous_creation superclass_constructor_call implicit_constructor_call choice chosen class_signatures signatures rows all_due library_declared declared_classes returned_value variable_constant bridges captured_locals captures is_blank constants_of library_constants no_cycle elaborated class_members in_body round_met round_class round_without_locals classes heads plain_program texts superclass own_constructor_call
+an_inherited_bridge = refl
+
+-- interface A<x> { int f(x v); }  class B { public int f(B v) { return 1; } }  class y extends B implements A<B> { }: f
+-- of B implements that of A in y, though it overrides nothing
+
+abbrev generic_interface : List Member → Declaration
+generic_interface ms =
+    tree.interface_declaration [] (id 0 1) (record { name = id 4 50; bound = None } ∷ []) no_types (members ms) whole
+
+a_bridge_to_an_inherited_one : of_guests bridged (elaborated (program (
+    generic_interface
+    (tree.method [] (Some int) (id 2 4) (formal (named 4 51 no_types) false ∷ []) [] tree.no_block whole ∷ [])
+    ∷ class 1 33 None no_types (returns public int 2 (formal (named 1 53 no_types) false ∷ []) (number 1) ∷ [])
+    ∷ class 5 55 (Some (named 1 56 no_types)) (more_types (a_of 1) no_types) [] ∷ [])))
+    ≡ gives ([] ∷ [] ∷ ((0, 0) ∷ []) ∷ [])
+unfolding library_words class_words member_words further_words library_class object_class settled sites erased is_subtype supertypes declared_class converted assigned bind check need number_literal literal_of primitive_operation binary superinterface anonymous_super well_placed bounded methods_above inherited may_override good_override good_implementations all_implemented no_clash no_constructor_clash no_inherited_clash bad_modifier class_heads found_field static_field find_field name_before assigned_select select variable_named variable_node taken not_forward assigned_name updated_name simple_name used constructors_in constructor_for anonymous_creation superclass_constructor_call implicit_constructor_call choice chosen class_signatures signatures rows all_due library_declared declared_classes returned_value variable_constant bridges captured_locals captures is_blank constants_of library_constants no_cycle elaborated class_members in_body round_met round_class round_without_locals classes heads plain_program texts superclass own_constructor_call
+a_bridge_to_an_inherited_one = refl
+
+abbrev bounded_by : ℕ → ℕ → Option TypeName → TypeNames → List Modifier → List Member → Declaration
+bounded_by x b above is ms members_of =
+    tree.class_declaration ms (id x 1) (record { name = id 4 50; bound = Some (named b 60 no_types) } ∷ []) above is
+    (members members_of) whole
+
+-- class A<x> { int f(x v) { return 1; } }  class y { }  class B<x extends y> extends A<x> { int f(y v) { return 1; } }
+-- class compareTo extends y { }  class v extends B<compareTo> { }: f of B overrides that of A by its erasure, also in v
+
+an_inherited_bridge_by_erasure : of_guests bridged (elaborated (program (
+    generic (returns [] int 2 (formal (named 4 51 no_types) false ∷ []) (number 1) ∷ [])
+    ∷ class 5 33 None no_types []
+    ∷ bounded_by 1 5 (Some (a_of 4)) no_types []
+    (returns [] int 2 (formal (named 5 53 no_types) false ∷ []) (number 1) ∷ [])
+    ∷ class 6 54 (Some (named 5 58 no_types)) no_types []
+    ∷ class 3 55 (Some (named 1 56 (more_types (named 6 57 no_types) no_types))) no_types [] ∷ [])))
+    ≡ gives ([] ∷ [] ∷ ((0, 0) ∷ []) ∷ [] ∷ ((0, 0) ∷ []) ∷ [])
+unfolding library_words class_words member_words further_words library_class object_class settled sites erased is_subtype supertypes declared_class converted assigned bind check need number_literal literal_of primitive_operation binary superinterface anonymous_super well_placed bounded methods_above inherited may_override good_override good_implementations all_implemented no_clash no_constructor_clash no_inherited_clash bad_modifier class_heads found_field static_field find_field name_before assigned_select select variable_named variable_node taken not_forward assigned_name updated_name simple_name used constructors_in constructor_for anonymous_creation superclass_constructor_call implicit_constructor_call choice chosen class_signatures signatures rows all_due library_declared declared_classes returned_value variable_constant bridges captured_locals captures is_blank constants_of library_constants no_cycle elaborated class_members in_body round_met round_class round_without_locals classes heads plain_program texts superclass own_constructor_call
+an_inherited_bridge_by_erasure = refl
+
+-- interface A<x> { int f(x v); }  class y { }  class v { public Object f(y v) { return v; } }
+-- abstract class B<x extends y> extends v implements A<x> { }: f of v has the erasure of A's in B, not its parameters
+
+no_bridge_by_erasure_alone : of_guests bridged (elaborated (program (
+    generic_interface
+    (tree.method [] (Some int) (id 2 4) (formal (named 4 51 no_types) false ∷ []) [] tree.no_block whole ∷ [])
+    ∷ class 5 33 None no_types []
+    ∷ class 3 34 None no_types
+    (returns public (named 7 61 no_types) 2 (formal (named 5 53 no_types) false ∷ []) (name_at 3 54) ∷ [])
+    ∷ bounded_by 1 5 (Some (named 3 62 no_types)) (more_types (a_of 4) no_types)
+    (record { kind = word.Abstract; span = at 2 } ∷ []) []
+    ∷ [])))
+    ≡ gives ([] ∷ [] ∷ [] ∷ [] ∷ [])
+unfolding library_words class_words member_words further_words library_class object_class settled sites erased is_subtype supertypes declared_class converted assigned bind check need number_literal literal_of primitive_operation binary superinterface anonymous_super well_placed bounded methods_above inherited may_override good_override good_implementations all_implemented no_clash no_constructor_clash no_inherited_clash bad_modifier class_heads found_field static_field find_field name_before assigned_select select variable_named variable_node taken not_forward assigned_name updated_name simple_name used constructors_in constructor_for anonymous_creation superclass_constructor_call implicit_constructor_call choice chosen class_signatures signatures rows all_due library_declared declared_classes returned_value variable_constant bridges captured_locals captures is_blank constants_of library_constants no_cycle elaborated class_members in_body round_met round_class round_without_locals classes heads plain_program texts superclass own_constructor_call
+no_bridge_by_erasure_alone = refl
 
 -- ---- a constant of letters beyond ASCII, U+00E9 and U+1D538, is made with the UTF-16 units of its name
 

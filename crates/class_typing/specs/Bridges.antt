@@ -1,5 +1,5 @@
--- Methods that are reached through others (JLS 8.4.8, 15.12.4.5): where a class has for a method one with the same
--- parameter types, whose erasures are others, a call of the first runs the second.
+-- Methods that are reached through others (JLS 8.4.8, 15.12.4.5): where a class has for a method one that overrides or
+-- implements it, and whose parameter types are erased to others, a call of the first runs the second.
 use Rattle.std.specs.Prelude.{ℕ, Bool, not, ◌&&◌, ◌||◌, List, [], ◌∷◌, map, filter, flat_map, Option, Some, None, nat_lt, nat_eq, if◌then◌else◌}
 use Rattle.std.specs.List.{find, list_any}
 use Rattle.je_core.specs.declared.program.Bridge.{Bridge}
@@ -8,8 +8,8 @@ use Rattle.je_classes.specs.Subtypes.{same_types}
 use Rattle.source_types.specs.Erasure.{class_numbered, erased}
 use Rattle.source_types.specs.Heads.{ClassHead}
 use Rattle.declarations.specs.Declarations.{DeclaredClass}
-use Rattle.overriding.specs.Methods.{Method, is_subsignature, methods_above}
-use Rattle.overriding.specs.Overrides.{has_methods}
+use Rattle.overriding.specs.Methods.{Method, have_one_name, methods_above}
+use Rattle.overriding.specs.Overrides.{has_methods, is_override}
 
 -- where a method is declared: the class, and the place there
 abbrev pub place_of : Method → ℕ × ℕ
@@ -35,12 +35,17 @@ module _ (heads : List ClassHead) (classes : List DeclaredClass) (c : ℕ) where
   abbrev pub erased_parameters : Method → List Ty
   erased_parameters m = map (erased heads) m.declared.parameters
 
-  -- it can run for the other one, which is erased to other parameter types
-  abbrev pub runs_for : Method → Method → Bool
-  runs_for n m =
+  -- it has a body for an object, and the other one's name, but is erased to other parameter types
+  abbrev pub has_body_beside : Method → Method → Bool
+  has_body_beside n m =
       not (m.is_abstract || m.declared.flags.is_static)
-      && is_subsignature heads m n
+      && have_one_name m n
       && not (same_types (erased_parameters m) (erased_parameters n))
+
+  -- It overrides the other one by the class that declares it (JLS 8.4.8.1), or implements it, which is abstract (JLS
+  -- 8.4.8.4).
+  abbrev pub runs_for : Method → Method → Bool
+  runs_for n m = has_body_beside n m && is_override heads classes m n
 
   abbrev pub is_instance_method : Method → Bool
   is_instance_method n = not n.declared.flags.is_static

@@ -1,7 +1,7 @@
 -- The members of a class (JLS 8.3, 8.4, 8.6, 8.7, 8.8), with the code of their bodies, or the first fault. Members
 -- come in the order in which they are written, and behind them what no source writes: a default constructor, and
 -- those of anonymous classes and enums.
-use Rattle.std.specs.Prelude.{ℕ, suc, ◌+◌, Bool, true, false, not, ◌&&◌, List, [], ◌∷◌, ◌++◌, length, map, Option, Some, None, slice_get, codes, if◌then◌else◌}
+use Rattle.std.specs.Prelude.{ℕ, suc, ◌+◌, Bool, true, false, not, ◌&&◌, List, [], ◌∷◌, ◌++◌, length, map, Option, Some, None, is_some, slice_get, codes, if◌then◌else◌}
 use Rattle.std.specs.List.{find}
 use Rattle.je_base.specs.declared.span.NameId.{NameId}
 use Rattle.je_base.specs.declared.span.Span.{Span}
@@ -24,7 +24,9 @@ use Rattle.declarations.specs.Declarations.{DeclaredField, DeclaredMethod, is_en
 use Rattle.overriding.specs.Methods.{methods_in}
 use Rattle.je_typing.specs.Constants.{uses_of}
 use Rattle.je_typing.specs.Conversions.{assigned}
-use Rattle.je_typing.specs.Judged.{Judged, gives, ◌>>=◌, ◌>>◌}
+use Rattle.je_typing.specs.declared.fault.TypeRule.TheVariants.{BadStatic}
+use Rattle.je_typing.specs.Judged.{Judged, gives, ◌>>=◌, ◌>>◌, check}
+use Rattle.header_typing.specs.Statics.{is_inner}
 use Rattle.je_typing.specs.Typed.{TypedNode, is_void}
 use Rattle.library_classes.specs.Numbers.{number_in}
 use Rattle.name_typing.specs.Fields.{field_at, member}
@@ -156,11 +158,17 @@ module _ (p : Program) (k : Known) (c : ℕ) (round : List Frame) where
         met = met_in_expression p (field_scope f.is_static at) e;
       }
 
+  -- a static field of an inner class is a constant, with the locals round the class too (JLS 8.1.3)
+  unfoldable pub inner_static : DeclaredField → Identifier → Option Constant → Judged (Unit {0})
+  inner_static f id constant =
+      check BadStatic id.span (not (f.is_static && not (is_some constant) && is_inner p.source.sites p.heads c))
+
   abbrev pub initialized : ℕ → Identifier → Expression → Option DeclaredField → Judged MembersDone
   initialized at id e None = gives nothing
   initialized at id e (Some f) = do
     from ← value (expression p k (field_scope f.is_static at) (initial f.ty) e)
     n ← assigned p.heads f.ty (written.span_of e) from
+    inner_static f id (variable_constant f.is_final f.ty from.node)
     gives (field_code f at id e from n f.is_static (variable_constant f.is_final f.ty from.node))
 
   abbrev pub variable : ℕ → Identifier → MaybeExpression → Judged MembersDone

@@ -10,6 +10,8 @@ use Rattle.flow_base.specs.declared.jumps.Way.TheVariants.{Returns}
 use Rattle.flow_base.specs.FaultSets.{Faults, none, ◌∪◌, fault_where}
 use Rattle.variable_sets.specs.Numbers.{local_number, field_number}
 use Rattle.variable_sets.specs.Sets.{Set, nothing, both, removing}
+use Rattle.captured_reads.specs.Standing.{Standing, standing_in}
+use Rattle.definite_assignment.specs.declared.programs.Owner.{Owner}
 use Rattle.je_core.specs.declared.program.Local.{Local}
 use Rattle.assignment_rules.specs.declared.rules.Rule.{Rule}
 use Rattle.assignment_rules.specs.declared.rules.Rule.TheVariants.{Assigned, Unassigned}
@@ -75,8 +77,22 @@ abbrev pub once_assigned : Rule → List Local → Set → Set
 once_assigned Assigned locals start = nothing
 once_assigned Unassigned locals start = final_locals locals 0 start
 
-unfoldable pub following : Rule → Option ClassId → List Local → Set → Follow
-following rule home locals start = record { rule = rule; home = home; finals = once_assigned rule locals start }
+-- the class whose fields are followed in a body
+abbrev pub home_of : Owner → Option ClassId
+home_of o = if o.is_home then Some o.class else None
+
+-- The classes that stand in a body, where reads are judged.
+abbrev pub judged_classes : Rule → CoreProgram → Owner → List Local → CoreStmt → List Standing
+judged_classes Assigned p o locals body = standing_in p o.class locals o.params body
+judged_classes Unassigned p o locals body = []
+
+unfoldable pub following : Rule → CoreProgram → Owner → List Local → Set → CoreStmt → Follow
+following rule p o locals start body = record {
+  rule = rule;
+  home = home_of o;
+  finals = once_assigned rule locals start;
+  standing = judged_classes rule p o locals body;
+}
 
 -- of a body, which has no label before it
 unfoldable pub ends_of : Follow → Set → CoreStmt → Ends
@@ -87,22 +103,27 @@ faults_of f b body = statement_faults f None b body
 
 -- ---- initializers, in the order of the text (16.8, 16.9)
 
-abbrev pub initializer_past : Rule → ClassId → Bool → Set → Set → CoreInitializer → Set
-initializer_past rule class static start b i =
-    if is_of_kind static i.is_static then (ends_of (following rule (Some class) i.locals start) b i.body).after else b
+abbrev pub of_initializer : Rule → CoreProgram → ClassId → Set → CoreInitializer → Follow
+of_initializer rule p class start i = following rule p (record { class = class; is_home = true; params = 0 }) i.locals start i.body
 
-abbrev pub initializer_faults : Rule → ClassId → Bool → Set → Set → CoreInitializer → Faults
-initializer_faults rule class static start b i =
-    if is_of_kind static i.is_static then faults_of (following rule (Some class) i.locals start) b i.body else none
+abbrev pub initializer_past : Rule → CoreProgram → ClassId → Bool → Set → Set → CoreInitializer → Set
+initializer_past rule p class static start b i =
+    if is_of_kind static i.is_static then (ends_of (of_initializer rule p class start i) b i.body).after else b
 
-abbrev pub initializers_past : Rule → ClassId → Bool → Set → Set → List CoreInitializer → Set
-initializers_past rule class static start b [] = b
-initializers_past rule class static start b (i ∷ is) = initializers_past rule class static start (initializer_past rule class static start b i) is
+abbrev pub initializer_faults : Rule → CoreProgram → ClassId → Bool → Set → Set → CoreInitializer → Faults
+initializer_faults rule p class static start b i =
+    if is_of_kind static i.is_static then faults_of (of_initializer rule p class start i) b i.body else none
 
-abbrev pub initializers_faults : Rule → ClassId → Bool → Set → Set → List CoreInitializer → Faults
-initializers_faults rule class static start b [] = none
-initializers_faults rule class static start b (i ∷ is) =
-    initializer_faults rule class static start b i ∪ initializers_faults rule class static start (initializer_past rule class static start b i) is
+abbrev pub initializers_past : Rule → CoreProgram → ClassId → Bool → Set → Set → List CoreInitializer → Set
+initializers_past rule p class static start b [] = b
+initializers_past rule p class static start b (i ∷ is) =
+    initializers_past rule p class static start (initializer_past rule p class static start b i) is
+
+abbrev pub initializers_faults : Rule → CoreProgram → ClassId → Bool → Set → Set → List CoreInitializer → Faults
+initializers_faults rule p class static start b [] = none
+initializers_faults rule p class static start b (i ∷ is) =
+    initializer_faults rule p class static start b i
+    ∪ initializers_faults rule p class static start (initializer_past rule p class static start b i) is
 
 -- ---- methods and constructors
 
@@ -152,18 +173,19 @@ constructor_start rule p class b body = if calls_own p class (stmt_form_of body)
 
 abbrev pub constructor_faults : Rule → CoreProgram → ClassId → CoreClass → Set → Set → CoreMethod → CoreStmt → Faults
 constructor_faults rule p class c start b m body =
-    let f = following rule (Some class) m.locals start in
+    let f = following rule p (record { class = class; is_home = true; params = length m.params }) m.locals start body in
     let before = with_parameters rule (length m.params) (constructor_start rule p class b body) in
     let ends = ends_of f before body in
     faults_of f before body ∪ end_faults rule false (both ends.after (ends.exits.by Returns)) c.fields
 
-abbrev pub plain_faults : Rule → CoreMethod → CoreStmt → Faults
-plain_faults rule m body =
-    faults_of (following rule None m.locals (none_marked rule)) (with_parameters rule (length m.params) (none_marked rule)) body
+abbrev pub plain_faults : Rule → CoreProgram → ClassId → CoreMethod → CoreStmt → Faults
+plain_faults rule p class m body =
+    let f = following rule p (record { class = class; is_home = false; params = length m.params }) m.locals (none_marked rule) body in
+    faults_of f (with_parameters rule (length m.params) (none_marked rule)) body
 
 abbrev pub body_faults : Rule → CoreProgram → ClassId → CoreClass → Set → Set → Bool → CoreMethod → CoreStmt → Faults
 body_faults rule p class c start b true m body = constructor_faults rule p class c start b m body
-body_faults rule p class c start b false m body = plain_faults rule m body
+body_faults rule p class c start b false m body = plain_faults rule p class m body
 
 abbrev pub method_faults : Rule → CoreProgram → ClassId → CoreClass → Set → Set → CoreMethod → Faults
 method_faults rule p class c start b m = of_body m.body where
@@ -177,20 +199,20 @@ methods_faults rule p class c start b (m ∷ ms) = method_faults rule p class c 
 
 -- ---- classes
 
-abbrev pub static_faults : Rule → ClassId → CoreClass → Faults
-static_faults rule class c =
+abbrev pub static_faults : Rule → CoreProgram → ClassId → CoreClass → Faults
+static_faults rule p class c =
     let start = at_start rule class true c in
-    initializers_faults rule class true start start c.initializers
-    ∪ end_faults rule true (initializers_past rule class true start start c.initializers) c.fields
+    initializers_faults rule p class true start start c.initializers
+    ∪ end_faults rule true (initializers_past rule p class true start start c.initializers) c.fields
 
 abbrev pub instance_faults : Rule → CoreProgram → ClassId → CoreClass → Faults
 instance_faults rule p class c =
     let start = at_start rule class false c in
-    initializers_faults rule class false start start c.initializers
-    ∪ methods_faults rule p class c start (initializers_past rule class false start start c.initializers) c.methods
+    initializers_faults rule p class false start start c.initializers
+    ∪ methods_faults rule p class c start (initializers_past rule p class false start start c.initializers) c.methods
 
 abbrev pub class_faults : Rule → CoreProgram → ClassId → CoreClass → Faults
-class_faults rule p class c = static_faults rule class c ∪ instance_faults rule p class c
+class_faults rule p class c = static_faults rule p class c ∪ instance_faults rule p class c
 
 abbrev pub classes_faults : Rule → CoreProgram → ℕ → List CoreClass → Faults
 classes_faults rule p at [] = none

@@ -3,18 +3,21 @@
 ghost use Rattle.std.specs.Prelude.{◌≡◌, ◌<◌, ◌^◌, length, IfOk, OnOk, map, if◌then◌else◌};
 ghost use Rattle.je_core.specs.Core.{form_of, stmt_form_of, core_stmts, maybe_core};
 ghost use Rattle.je_core.specs.View.{view, view_if, form_view, stmt_view, stmt_form_view, stmt_views, field_view, initializer_view, method_view, class_view, program_view};
+ghost use Rattle.captured_reads.specs.NestingView.{program_of};
+ghost use Rattle.captured_reads.specs.View.{standing_view};
 ghost use Rattle.flow_base.specs.way.Kept.{first_of};
 ghost use Rattle.je_classes.specs.Members.{names_constructors as names_constructors_of};
 ghost use Rattle.variable_sets.specs.Numbers.{field_number as the_field_number};
 ghost use Rattle.variable_sets.specs.SetView.{set_view};
 ghost use Rattle.assignment_rules.specs.Rules.{marking};
-ghost use Rattle.definite_assignment.specs.Programs.{is_of_kind as the_is_of_kind, may_be_blank as the_may_be_blank, other_fields as the_other_fields, assigned_in as the_assigned_in, assigned_by as the_assigned_by, with_initialized as the_with_initialized, at_start as the_at_start, left_faults, end_faults, final_locals as the_final_locals, once_assigned as the_once_assigned, following as the_following, ends_of, faults_of, initializer_past, initializer_faults, initializers_past, initializers_faults, with_parameters as the_with_parameters, is_this as the_is_this, is_this_form as the_is_this_form, is_this_there as the_is_this_there, builds_own as the_builds_own, is_own_call as the_is_own_call, is_own as the_is_own, first_is_own as the_first_is_own, calls_own as the_calls_own, constructor_start as the_constructor_start, constructor_faults, plain_faults, body_faults, method_faults, methods_faults, static_faults, instance_faults, class_faults, classes_faults, program_faults};
+ghost use Rattle.definite_assignment.specs.Programs.{is_of_kind as the_is_of_kind, may_be_blank as the_may_be_blank, other_fields as the_other_fields, assigned_in as the_assigned_in, assigned_by as the_assigned_by, with_initialized as the_with_initialized, at_start as the_at_start, left_faults, end_faults, final_locals as the_final_locals, once_assigned as the_once_assigned, home_of as the_home_of, judged_classes as the_judged_classes, following as the_following, ends_of, faults_of, initializer_past, initializer_faults, initializers_past, initializers_faults, with_parameters as the_with_parameters, is_this as the_is_this, is_this_form as the_is_this_form, is_this_there as the_is_this_there, builds_own as the_builds_own, is_own_call as the_is_own_call, is_own as the_is_own, first_is_own as the_first_is_own, calls_own as the_calls_own, constructor_start as the_constructor_start, constructor_faults, plain_faults, body_faults, method_faults, methods_faults, static_faults, instance_faults, class_faults, classes_faults, program_faults};
 ghost use Rattle.assigned_expressions.specs.Expressions.{assigning};
 ghost use Rattle.assignment_rules.specs.View.{ends_view, follow_view};
 
 use assigned_expressions::{is_home, variable_of};
 use assigned_statements::walk_statement;
 use assignment_rules::{Ends, Follow, Rule, all_marked, marked, none_marked};
+use captured_reads::{Nesting, Standing, standing};
 use class_members::{is_hidden, method_at, names_constructors};
 use flow_base::{FaultKind, FirstFault, Way};
 use je_core::{
@@ -27,7 +30,7 @@ use variable_sets::{Variables, field_number, local_number};
 /// Adds the faults of a program by a rule to those found. By `Assigned` each variable that is read before it is definitely
 /// assigned, each blank final field that a constructor leaves so, and each static one that its class's initializers leave so.
 /// By `Unassigned` each blank final variable that is assigned where it isn't definitely unassigned.
-#[tactic(auto, unfolding(crate::specs::Programs::program_faults))]
+#[tactic(auto, unfolding(je_core::specs::View::program_view, crate::specs::Programs::program_faults))]
 pub fn judge_program(
     alloc: Global,
     rule: Rule,
@@ -38,23 +41,24 @@ pub fn judge_program(
     ensures { OnOk result (found.new ≡
         first_of found.old (program_faults rule (program_view program.now))) }
 {
-    judge_classes(alloc, rule, program, found)
+    let nesting = Nesting::of(alloc, program)?;
+    judge_classes(alloc, rule, &nesting, &program.classes, found)
 }
 
-#[tactic(auto, unfolding(je_core::specs::View::program_view))]
 fn judge_classes(
     alloc: Global,
     rule: Rule,
-    program: &Program,
+    nesting: &Nesting,
+    classes: &[Class],
     found: &mut FirstFault,
 ) -> Result<(), Memory>
-    requires { length (program_view program.now).classes < 2 ^ 31 }
+    requires { length classes.now < 2 ^ 31 }
     ensures { OnOk result (found.new ≡ first_of found.old
-        (classes_faults rule (program_view program.now) 0 (program_view program.now).classes)) }
+        (classes_faults rule (program_of nesting.now) 0 (map class_view classes.now))) }
 {
     let mut at: u32 = 0;
-    for class in &program.classes {
-        judge_class(alloc, rule, program, ClassId(at), class, found)?;
+    for class in classes {
+        judge_class(alloc, rule, nesting, ClassId(at), class, found)?;
         at += 1;
     }
     Ok(())
@@ -63,34 +67,36 @@ fn judge_classes(
 fn judge_class(
     alloc: Global,
     rule: Rule,
-    program: &Program,
+    nesting: &Nesting,
     id: ClassId,
     class: &Class,
     found: &mut FirstFault,
 ) -> Result<(), Memory>
     ensures { OnOk result (found.new ≡ first_of found.old
-        (class_faults rule (program_view program.now) id (class_view class.now))) }
+        (class_faults rule (program_of nesting.now) id (class_view class.now))) }
 {
-    judge_static(alloc, rule, id, class, found)?;
-    judge_instance(alloc, rule, program, id, class, found)
+    judge_static(alloc, rule, nesting, id, class, found)?;
+    judge_instance(alloc, rule, nesting, id, class, found)
 }
 
 // Adds the faults of the static initializers of a class.
 fn judge_static(
     alloc: Global,
     rule: Rule,
+    nesting: &Nesting,
     id: ClassId,
     class: &Class,
     found: &mut FirstFault,
 ) -> Result<(), Memory>
     ensures { OnOk result (found.new ≡
-        first_of found.old (static_faults rule id (class_view class.now))) }
+        first_of found.old (static_faults rule (program_of nesting.now) id (class_view class.now))) }
 {
     let start = at_start(alloc, rule, id, true, class)?;
     let before = start.copy()?;
     let past = walk_initializers(
         alloc,
         rule,
+        nesting,
         id,
         true,
         &start,
@@ -106,19 +112,20 @@ fn judge_static(
 fn judge_instance(
     alloc: Global,
     rule: Rule,
-    program: &Program,
+    nesting: &Nesting,
     id: ClassId,
     class: &Class,
     found: &mut FirstFault,
 ) -> Result<(), Memory>
     ensures { OnOk result (found.new ≡ first_of found.old
-        (instance_faults rule (program_view program.now) id (class_view class.now))) }
+        (instance_faults rule (program_of nesting.now) id (class_view class.now))) }
 {
     let start = at_start(alloc, rule, id, false, class)?;
     let before = start.copy()?;
     let past = walk_initializers(
         alloc,
         rule,
+        nesting,
         id,
         false,
         &start,
@@ -127,7 +134,7 @@ fn judge_instance(
         found,
     )?;
     let around = Around { id, start, past };
-    judge_methods(alloc, rule, program, class, &around, &class.methods, found)
+    judge_methods(alloc, rule, nesting, class, &around, &class.methods, found)
 }
 
 // A class round a method: its number, the set when its instance initializers begin, and that when they end.
@@ -141,18 +148,18 @@ struct Around {
 fn judge_methods(
     alloc: Global,
     rule: Rule,
-    program: &Program,
+    nesting: &Nesting,
     class: &Class,
     around: &Around,
     methods: &[Method],
     found: &mut FirstFault,
 ) -> Result<(), Memory>
     ensures { OnOk result (found.new ≡ first_of found.old
-        (methods_faults rule (program_view program.now) around.now.id (class_view class.now)
+        (methods_faults rule (program_of nesting.now) around.now.id (class_view class.now)
         (set_view around.now.start) (set_view around.now.past) (map method_view methods.now))) }
 {
     for method in methods {
-        judge_method(alloc, rule, program, class, around, method, found)?;
+        judge_method(alloc, rule, nesting, class, around, method, found)?;
     }
     Ok(())
 }
@@ -160,19 +167,19 @@ fn judge_methods(
 fn judge_method(
     alloc: Global,
     rule: Rule,
-    program: &Program,
+    nesting: &Nesting,
     class: &Class,
     around: &Around,
     method: &Method,
     found: &mut FirstFault,
 ) -> Result<(), Memory>
     ensures { OnOk result (found.new ≡ first_of found.old
-        (method_faults rule (program_view program.now) around.now.id (class_view class.now)
+        (method_faults rule (program_of nesting.now) around.now.id (class_view class.now)
         (set_view around.now.start) (set_view around.now.past) (method_view method.now))) }
 {
     match &method.body {
         None => Ok(()),
-        Some(body) => judge_body(alloc, rule, program, class, around, method, body, found),
+        Some(body) => judge_body(alloc, rule, nesting, class, around, method, body, found),
     }
 }
 
@@ -180,7 +187,7 @@ fn judge_method(
 fn judge_body(
     alloc: Global,
     rule: Rule,
-    program: &Program,
+    nesting: &Nesting,
     class: &Class,
     around: &Around,
     method: &Method,
@@ -188,34 +195,43 @@ fn judge_body(
     found: &mut FirstFault,
 ) -> Result<(), Memory>
     ensures { OnOk result (found.new ≡ first_of found.old
-        (body_faults rule (program_view program.now) around.now.id (class_view class.now)
+        (body_faults rule (program_of nesting.now) around.now.id (class_view class.now)
         (set_view around.now.start) (set_view around.now.past)
-        (names_constructors_of (program_view program.now) method.now.name)
+        (names_constructors_of (program_of nesting.now) method.now.name)
         (method_view method.now) (stmt_view body.now))) }
 {
-    if names_constructors(program, method.name) {
-        return judge_constructor(alloc, rule, program, class, around, method, body, found);
+    if names_constructors(nesting.program(), method.name) {
+        return judge_constructor(alloc, rule, nesting, class, around, method, body, found);
     }
-    judge_plain(alloc, rule, method, body, found)
+    judge_plain(alloc, rule, nesting, around.id, method, body, found)
 }
 
 // Adds the faults of a body of a method that is no constructor.
 fn judge_plain(
     alloc: Global,
     rule: Rule,
+    nesting: &Nesting,
+    id: ClassId,
     method: &Method,
     body: &Stmt,
     found: &mut FirstFault,
 ) -> Result<(), Memory>
-    ensures { OnOk result (found.new ≡ first_of found.old
-        (plain_faults rule (method_view method.now) (stmt_view body.now))) }
+    ensures { OnOk result (found.new ≡ first_of found.old (plain_faults rule
+        (program_of nesting.now) id (method_view method.now) (stmt_view body.now))) }
 {
     let start = none_marked(alloc, rule);
-    let before = with_parameters(rule, method.params.len(), none_marked(alloc, rule))?;
+    let params = method.params.len();
+    let before = with_parameters(rule, params, none_marked(alloc, rule))?;
+    let owner = Owner {
+        class: id,
+        is_home: false,
+        params,
+    };
     let _ = walk_body(
         alloc,
         rule,
-        None,
+        nesting,
+        owner,
         &method.locals,
         &start,
         body,
@@ -228,7 +244,7 @@ fn judge_plain(
 fn judge_constructor(
     alloc: Global,
     rule: Rule,
-    program: &Program,
+    nesting: &Nesting,
     class: &Class,
     around: &Around,
     method: &Method,
@@ -236,17 +252,30 @@ fn judge_constructor(
     found: &mut FirstFault,
 ) -> Result<(), Memory>
     ensures { OnOk result (found.new ≡ first_of found.old
-        (constructor_faults rule (program_view program.now) around.now.id (class_view class.now)
+        (constructor_faults rule (program_of nesting.now) around.now.id (class_view class.now)
         (set_view around.now.start) (set_view around.now.past)
         (method_view method.now) (stmt_view body.now))) }
 {
-    let id = Some(around.id);
-    let before = constructor_start(alloc, rule, program, around.id, &around.past, body)?;
-    let before = with_parameters(rule, method.params.len(), before)?;
+    let before = constructor_start(
+        alloc,
+        rule,
+        nesting.program(),
+        around.id,
+        &around.past,
+        body,
+    )?;
+    let params = method.params.len();
+    let before = with_parameters(rule, params, before)?;
+    let owner = Owner {
+        class: around.id,
+        is_home: true,
+        params,
+    };
     let ends = walk_body(
         alloc,
         rule,
-        id,
+        nesting,
+        owner,
         &method.locals,
         &around.start,
         body,
@@ -258,11 +287,21 @@ fn judge_constructor(
     Ok(())
 }
 
+// Whose body it is: its class, whether the fields of that are followed in it, and how many of its locals are
+// parameters.
+#[derive(Clone, Copy)]
+struct Owner {
+    class: ClassId,
+    is_home: bool,
+    params: usize,
+}
+
 // How a body of these locals ends, by the set when the initializers of its class begin. Adds its faults.
 fn walk_body(
     alloc: Global,
     rule: Rule,
-    home: Option<ClassId>,
+    nesting: &Nesting,
+    owner: Owner,
     locals: &[Local],
     start: &Variables,
     body: &Stmt,
@@ -270,13 +309,13 @@ fn walk_body(
     found: &mut FirstFault,
 ) -> Result<Ends, Memory>
     ensures ends { IfOk result (λ e. ends_view e ≡
-        ends_of (the_following rule home locals.now (set_view start.now)) (set_view before)
-        (stmt_view body.now)) }
+        ends_of (the_following rule (program_of nesting.now) owner locals.now (set_view start.now)
+        (stmt_view body.now)) (set_view before) (stmt_view body.now)) }
     ensures faults { OnOk result (found.new ≡ first_of found.old
-        (faults_of (the_following rule home locals.now (set_view start.now)) (set_view before)
-        (stmt_view body.now))) }
+        (faults_of (the_following rule (program_of nesting.now) owner locals.now
+        (set_view start.now) (stmt_view body.now)) (set_view before) (stmt_view body.now))) }
 {
-    let follow = following(alloc, rule, home, locals, start)?;
+    let follow = following(alloc, rule, nesting, owner, locals, start, body)?;
     walk_statement(alloc, &follow, body, None, before, found)
 }
 
@@ -285,15 +324,51 @@ fn walk_body(
 fn following(
     alloc: Global,
     rule: Rule,
-    home: Option<ClassId>,
+    nesting: &Nesting,
+    owner: Owner,
     locals: &[Local],
     start: &Variables,
+    body: &Stmt,
 ) -> Result<Follow, Memory>
-    ensures { IfOk result (λ f. follow_view f ≡
-        the_following rule home locals.now (set_view start.now)) }
+    ensures { IfOk result (λ f. follow_view f ≡ the_following rule (program_of nesting.now) owner
+        locals.now (set_view start.now) (stmt_view body.now)) }
 {
     let finals = once_assigned(alloc, rule, locals, start)?;
-    Ok(Follow { rule, home, finals })
+    let standing = judged_classes(alloc, rule, nesting, owner, locals, body)?;
+    Ok(Follow {
+        rule,
+        home: home_of(owner),
+        finals,
+        standing,
+    })
+}
+
+// The class whose fields are followed in a body.
+fn home_of(owner: Owner) -> Option<ClassId>
+    ensures { result ≡ the_home_of owner }
+{
+    if owner.is_home {
+        return Some(owner.class);
+    }
+    None
+}
+
+// The classes that stand in a body, where reads are judged.
+fn judged_classes(
+    alloc: Global,
+    rule: Rule,
+    nesting: &Nesting,
+    owner: Owner,
+    locals: &[Local],
+    body: &Stmt,
+) -> Result<Vec<Standing>, Memory>
+    ensures { IfOk result (λ s. map standing_view s.items ≡ the_judged_classes rule
+        (program_of nesting.now) owner locals.now (stmt_view body.now)) }
+{
+    match rule {
+        Rule::Assigned => standing(alloc, nesting, owner.class, locals, owner.params, body),
+        Rule::Unassigned => Ok(Vec::new(alloc)),
+    }
 }
 
 // The variables that may be assigned only once, where that is followed.
@@ -602,6 +677,7 @@ fn add_unassigned(is_static: bool, set: &Variables, fields: &[Field], found: &mu
 fn walk_initializers(
     alloc: Global,
     rule: Rule,
+    nesting: &Nesting,
     id: ClassId,
     is_static: bool,
     start: &Variables,
@@ -609,15 +685,25 @@ fn walk_initializers(
     before: Variables,
     found: &mut FirstFault,
 ) -> Result<Variables, Memory>
-    ensures past { IfOk result (λ v. set_view v ≡ initializers_past rule id is_static
+    ensures past { IfOk result (λ v. set_view v ≡ initializers_past rule (program_of nesting.now) id is_static
         (set_view start.now) (set_view before) (map initializer_view initializers.now)) }
     ensures faults { OnOk result (found.new ≡ first_of found.old
-        (initializers_faults rule id is_static
+        (initializers_faults rule (program_of nesting.now) id is_static
         (set_view start.now) (set_view before) (map initializer_view initializers.now))) }
 {
     let mut past = before;
     for initializer in initializers {
-        past = walk_initializer(alloc, rule, id, is_static, start, initializer, past, found)?;
+        past = walk_initializer(
+            alloc,
+            rule,
+            nesting,
+            id,
+            is_static,
+            start,
+            initializer,
+            past,
+            found,
+        )?;
     }
     Ok(past)
 }
@@ -625,6 +711,7 @@ fn walk_initializers(
 fn walk_initializer(
     alloc: Global,
     rule: Rule,
+    nesting: &Nesting,
     id: ClassId,
     is_static: bool,
     start: &Variables,
@@ -632,19 +719,25 @@ fn walk_initializer(
     before: Variables,
     found: &mut FirstFault,
 ) -> Result<Variables, Memory>
-    ensures past { IfOk result (λ v. set_view v ≡ initializer_past rule id is_static
+    ensures past { IfOk result (λ v. set_view v ≡ initializer_past rule (program_of nesting.now) id is_static
         (set_view start.now) (set_view before) (initializer_view initializer.now)) }
     ensures faults { OnOk result (found.new ≡ first_of found.old
-        (initializer_faults rule id is_static
+        (initializer_faults rule (program_of nesting.now) id is_static
         (set_view start.now) (set_view before) (initializer_view initializer.now))) }
 {
     if !is_of_kind(is_static, initializer.is_static) {
         return Ok(before);
     }
+    let owner = Owner {
+        class: id,
+        is_home: true,
+        params: 0,
+    };
     let ends = walk_body(
         alloc,
         rule,
-        Some(id),
+        nesting,
+        owner,
         &initializer.locals,
         start,
         &initializer.body,

@@ -7,9 +7,9 @@ ghost use Rattle.je_classes.specs.Dispatch.{implemented as the_implemented, disp
 ghost use Rattle.je_fitting.specs.way.DecidingClasses.{is_inherited_fit, are_inherited_fit, implements_all as the_implements_all};
 ghost use Rattle.class_lookup.specs.Above.{AreAbove};
 ghost use Rattle.fit_members.specs.way.Each.{tested_from, each_of};
-ghost use Rattle.fit_classes.specs.way.Inheriting.{is_of_objects as the_is_of_objects, inherits as the_inherits, has_method as the_has_method};
+ghost use Rattle.fit_classes.specs.way.Inheriting.{is_of_objects as the_is_of_objects, is_asked as the_is_asked, inherits as the_inherits, has_method as the_has_method};
 
-use class_members::{dispatched, implemented, is_private, method_at, same_class};
+use class_members::{dispatched, implemented, is_bridged, is_private, method_at, same_class};
 use fit_members::stands_for;
 use fit_parts::is_constructor;
 use je_core::{ClassId, Memory, Method, Program};
@@ -45,12 +45,27 @@ fn is_of_objects(program: &Program, method: &Method) -> bool
     !method.flags.is_static && !is_constructor(program, method)
 }
 
-// Whether what a class inherits for a method that stands above it fits.
-fn inherits(alloc: Global, program: &Program, id: ClassId, method: &Method) -> Result<bool, Memory>
-    ensures { IfOk result (λ fits. fits ≡
-        the_inherits (program_view program.now) id (method_view method.now)) }
+// Whether a method of objects stands at a place above a class, which isn't private, and for which none of the class's bridges
+// runs another one.
+fn is_asked(program: &Program, id: ClassId, class: ClassId, at: usize, method: &Method) -> bool
+    ensures { result ≡ the_is_asked (program_view program.now) id class at (method_view method.now) }
 {
-    if !is_of_objects(program, method) || is_private(method) {
+    is_of_objects(program, method) && !is_private(method) && !is_bridged(program, id, class, at)
+}
+
+// Whether what a class inherits for a method that stands above it fits.
+fn inherits(
+    alloc: Global,
+    program: &Program,
+    id: ClassId,
+    class: ClassId,
+    at: usize,
+    method: &Method,
+) -> Result<bool, Memory>
+    ensures { IfOk result (λ fits. fits ≡
+        the_inherits (program_view program.now) id class at (method_view method.now)) }
+{
+    if !is_asked(program, id, class, at, method) {
         return Ok(true);
     }
     inherited_fits(alloc, program, id, method)
@@ -60,13 +75,14 @@ fn inherits_among(
     alloc: Global,
     program: &Program,
     id: ClassId,
+    class: ClassId,
     methods: &[Method],
 ) -> Result<bool, Memory>
     ensures { IfOk result (λ fit. fit ≡ tested_from
-        (λ n k. the_inherits (program_view program.now) id k) 0 (map method_view methods.now)) }
+        (the_inherits (program_view program.now) id class) 0 (map method_view methods.now)) }
 {
-    for method in methods {
-        if !inherits(alloc, program, id, method)? {
+    for (at, method) in methods.iter().enumerate() {
+        if !inherits(alloc, program, id, class, at, method)? {
             return Ok(false);
         }
     }
@@ -80,12 +96,12 @@ fn inherits_from(
     class: ClassId,
 ) -> Result<bool, Memory>
     ensures { IfOk result (λ fit. fit ≡ tested_from
-        (λ n k. the_inherits (program_view program.now) id k) 0
+        (the_inherits (program_view program.now) id class) 0
         (methods_of (program_view program.now) class)) }
 {
     match program.class(class) {
         None => Ok(true),
-        Some(class) => inherits_among(alloc, program, id, &class.methods),
+        Some(declaring) => inherits_among(alloc, program, id, class, &declaring.methods),
     }
 }
 
@@ -96,7 +112,7 @@ fn inherits_from_all(
     above: &[ClassId],
 ) -> Result<bool, Memory>
     ensures { IfOk result (λ fit. fit ≡ each_of (program_view program.now)
-        (λ d n k. the_inherits (program_view program.now) id k) above.now) }
+        (the_inherits (program_view program.now) id) above.now) }
 {
     for class in above {
         if !inherits_from(alloc, program, id, *class)? {

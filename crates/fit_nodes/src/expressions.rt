@@ -99,7 +99,9 @@ fn form_fits(
             if !expression_fits(alloc, program, body, place)? {
                 return Ok(false);
             }
-            if !same_type(type_of(place), ty) || !leaves::is_place(program, body, place) {
+            if !agrees(alloc, program, ty, type_of(place))?
+                || !leaves::is_place(program, body, place)
+            {
                 return Ok(false);
             }
             operand_fits(alloc, program, body, *op, ty, *gives_old, operand)

@@ -10,7 +10,7 @@ use je_core::{ClassId, Local, Ty};
 use std::marker::Model;
 
 /// What a body is of.
-#[derive(Clone, Copy, PartialEq, Eq, Debug)]
+#[derive(Clone, Copy, PartialEq, Eq)]
 pub enum Code {
     Method,
     Constructor,

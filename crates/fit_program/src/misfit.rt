@@ -14,7 +14,7 @@ use je_core::{Class, ClassId, Memory, Program};
 use std::alloc::Global;
 
 /// A part of a class: the class itself, or its field or method at a place.
-#[derive(Clone, Copy, PartialEq, Eq, Debug)]
+#[derive(Clone, Copy, PartialEq, Eq)]
 pub enum Part {
     Itself,
     Field(usize),

@@ -3,7 +3,6 @@ use Rattle.std.proofs.Common.{◌≡◌, ℕ, suc, ◌+◌, List, [], ◌∷◌,
 use Rattle.std.specs.Prelude.{Bool, true, false, not, ◌||◌, if◌then◌else◌, is_some, slice_get}
 use Rattle.std.proofs.lemmas.List.Elements.{All-nil}
 use Rattle.je_base.specs.declared.span.Span.{Span}
-use Rattle.je_core.specs.declared.program.Kind.{Kind}
 use Rattle.je_core.specs.declared.program.Sort.{Sort}
 use Rattle.je_core.specs.declared.program.Sort.TheVariants as sort
 use Rattle.je_core.specs.declared.types.Ty.{Ty}
@@ -166,7 +165,7 @@ module _ (p : Program) (q : CoreProgram) (represents : Represents p q) (has : Ha
       pub of : HasClass t m
       pub passing : Passing q body (passed m.parameters args) (map (erased p.heads) of.buildable.types)
 
-    constructor-for : (c : ℕ) (t : SourceType) (at : Span) → IsSound q p.heads 255 t → ((c : ℕ) → class_in t ≡ Some c → HasDefault p q c) → Gives (IsBuilt t) (constructor_for p c t at args)
+    pub constructor-for : (c : ℕ) (t : SourceType) (at : Span) → IsSound q p.heads 255 t → ((c : ℕ) → class_in t ≡ Some c → HasDefault p q c) → Gives (IsBuilt t) (constructor_for p c t at args)
     unfolding constructor_for
     constructor-for c t at s default = by _ (chosen-is p.heads p.source.sites c (constructors_in p.source.sites p.classes t) (map type_of args) NoConstructor at)
       where
@@ -203,7 +202,7 @@ module _ (p : Program) (q : CoreProgram) (represents : Represents p q) (has : Ha
 
     can-be-made : (c : ℕ) (class : CoreClass) (h : HeadStands p.heads c class) → h.head.kind.is_abstract ≡ false → headers.is_interface_sort h.head.kind.sort ≡ false → can_be_made class ≡ true
     can-be-made c class h a i =
-        ap (λ (k : Kind). not (k.is_abstract || is_interface_sort k.sort)) h.kind
+        ap not h.is_abstract
         ∙ ap (λ b. not (b || is_interface_sort h.head.kind.sort)) a
         ∙ ap not (same-sort h.head.kind.sort ∙ i)
 

@@ -22,6 +22,11 @@ unfolding bind check
 behind-check Q rule span true j h = h refl
 behind-check Q rule span false j h = tt
 
+pub checked : (rule : TypeRule) (span : Span) (b : Bool) → Gives (λ u. b ≡ true) (check rule span b)
+unfolding check
+checked rule span true = refl
+checked rule span false = tt
+
 pub behind-need : {A B : Type 0} (Q : B → Type 0) (rule : TypeRule) (span : Span) (o : Option A) (f : A → Judged B) → ((a : A) → o ≡ Some a → Gives Q (f a)) → Gives Q (bind (need rule span o) f)
 unfolding bind need
 behind-need Q rule span (Some a) f h = h a refl

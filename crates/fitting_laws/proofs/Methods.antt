@@ -27,14 +27,14 @@ use Rattle.fitting_laws.proofs.Sound.{all-wider, substituted-put}
 
 -- ---- what a method is among those of a class
 
-record Own (c at : ℕ) (ms : List DeclaredMethod) (m : Method) : Type 0 where
-  place : ℕ
-  declared : DeclaredMethod
-  is : m ≡ own_method c (at + place) declared
-  there : slice_get ms place ≡ Some declared
-  plain : declared.is_constructor ≡ false
+pub record Own (c at : ℕ) (ms : List DeclaredMethod) (m : Method) : Type 0 where
+  pub place : ℕ
+  pub declared : DeclaredMethod
+  pub is : m ≡ own_method c (at + place) declared
+  pub there : slice_get ms place ≡ Some declared
+  pub plain : declared.is_constructor ≡ false
 
-own-from : (c at : ℕ) (ms : List DeclaredMethod) (m : Method) → In (own_from c at ms) m → Own c at ms m
+pub own-from : (c at : ℕ) (ms : List DeclaredMethod) (m : Method) → In (own_from c at ms) m → Own c at ms m
 own-from c at [] m q = elim q [ ]
 own-from c at (d ∷ ms) m q = bool_cases (λ b. d.is_constructor ≡ b → In (if b then own_from c (suc at) ms else own_method c at d ∷ own_from c (suc at) ms) m → Own c at (d ∷ ms) m) (d.is_constructor)
     (λ _ e r. later (own-from c (suc at) ms m r))
@@ -60,12 +60,12 @@ joined-in ms (n ∷ ns) m q = by_either
     added true r = inl r
     added false r = by_either (λ x. inl x) only (in-either ms r)
 
-record Among (f : SourceType → List Method) (ts : List SourceType) (m : Method) : Type 0 where
-  type : SourceType
-  there : In ts type
-  has : In (f type) m
+pub record Among (f : SourceType → List Method) (ts : List SourceType) (m : Method) : Type 0 where
+  pub type : SourceType
+  pub there : In ts type
+  pub has : In (f type) m
 
-joined-over-in : (f : SourceType → List Method) (ms : List Method) (ts : List SourceType) (m : Method) → In (joined_over f ms ts) m → In ms m ⊎ Among f ts m
+pub joined-over-in : (f : SourceType → List Method) (ms : List Method) (ts : List SourceType) (m : Method) → In (joined_over f ms ts) m → In ms m ⊎ Among f ts m
 joined-over-in f ms [] m q = inl q
 joined-over-in f ms (t ∷ ts) m q = by_either
     (λ r. by_either (λ x. inl x) (λ x. inr (record { type = t; there = first; has = x })) (joined-in ms (f t) m r))

@@ -8,7 +8,7 @@ use Rattle.je_core.specs.declared.types.Base.TheVariants as base
 use Rattle.je_core.specs.declared.expr.BinOp.{BinOp}
 use Rattle.je_core.specs.declared.expr.BinOp.TheVariants.{Add, Sub}
 use Rattle.je_core.specs.declared.expr.UnOp.TheVariants as unary_op
-use Rattle.je_core.specs.Core.{Core, CoreProgram, form_of, ty_of}
+use Rattle.je_core.specs.Core.{Core, CoreProgram, form_of}
 use Rattle.je_ast.specs.declared.expr.Literal.{Literal}
 use Rattle.je_ast.specs.declared.expr.Literal.TheVariants as literal
 use Rattle.je_ast.specs.declared.name.Identifier.{Identifier}
@@ -33,16 +33,16 @@ use Rattle.je_scopes.specs.Looks as look
 use Rattle.je_scopes.specs.SourceTypes.{SourceType, base_of, no_source_types, of_class, of_variable, plain, with_dims}
 use Rattle.source_types.specs.Subtypes.{dims_of}
 use Rattle.header_typing.specs.WrittenTypes as types
-use Rattle.je_typing.specs.declared.fault.TypeRule.TheVariants.{BadArray, BadIndex, FinalAssign, NotAccessible, UnknownName, VoidValue}
+use Rattle.je_typing.specs.declared.fault.TypeRule.TheVariants.{BadArray, BadIndex, BadTarget, FinalAssign, NotAccessible, UnknownName, VoidValue}
 use Rattle.je_typing.specs.Arrays.{Part, array_of, array_type, element, elements_if, elements_node, int_index, may_be_made, new_array}
 use Rattle.je_typing.specs.Assignments.{is_place, stepped}
 use Rattle.je_typing.specs.Casts.{is_reifiable}
-use Rattle.je_typing.specs.Conversions.{span_of}
+use Rattle.je_typing.specs.Conversions.{span_of, token_of}
 use Rattle.je_typing.specs.Judged.{Judged, bind, check, faulty, gives}
 use Rattle.je_typing.specs.Constants.{folded_unary}
 use Rattle.je_typing.specs.Literals.{int_value, is_number, literal_of, long_value, negative_int, negative_long}
 use Rattle.je_typing.specs.Operators.{plus, unary}
-use Rattle.je_typing.specs.Typed.{TypedNode, element_type, is_primitive_base, is_string, is_void}
+use Rattle.je_typing.specs.Typed.{TypedNode, element_type, is_primitive_base, is_void}
 use Rattle.name_typing.specs.Accesses.{super_field}
 use Rattle.name_typing.specs.Instances.{this}
 use Rattle.name_typing.specs.Program.{Program}
@@ -50,7 +50,7 @@ use Rattle.name_typing.specs.Qualified.{Qualifier, a_value, assigned_select, sel
 use Rattle.body_types.specs.BodyTypes.{bare_type, body_type, is_type, look_at, may_be_named, type_at, type_of_look}
 use Rattle.call_typing.specs.Calls.{call_on, receiver, simple_call, super_call, used}
 use Rattle.call_typing.specs.Creations.{anonymous_creation, creation}
-use Rattle.body_typing.specs.Expressions.{Known, Purpose, anonymous_at, anonymous_type, array_over, assign_step, assigned, assigned_by, before, class_of_look, class_or_zero, element_or, elements_for, elements_in, expression, initial, innermost, name_span, named_before, negative_literal, one_more, or_else, outer, part, parts, prefix_purpose, prefixed, read, selected, simple, step_of, taken_for, target_purpose, updated, value, values}
+use Rattle.body_typing.specs.Expressions.{Known, Purpose, anonymous_at, anonymous_type, array_over, assign_step, assigned, assigned_by, before, class_of_look, class_or_zero, element_or, elements_for, elements_in, expression, initial, innermost, is_variable, may_be_target, name_span, named_before, negative_literal, one_more, or_else, outer, part, parts, prefix_purpose, prefixed, read, selected, simple, step, step_of, taken_for, target_purpose, updated, value, values}
 use Rattle.body_typing.specs.FinalVariables.{Scope, may_be_assigned, not_final}
 use Rattle.typing_laws.specs.Fitting.{Gives}
 use Rattle.je_fitting.specs.Types.{agrees, of}
@@ -65,11 +65,11 @@ use Rattle.fitting_laws.specs.Names.{IsTarget, IsVariable, QualifierFits, ScopeS
 use Rattle.fitting_laws.specs.Represented.{IsThere, NameIsReached, Represents}
 use Rattle.fitting_laws.specs.Sound.{IsSound, IsType, a_type, no_arguments, of_null, of_void, sound_class, sound_primitive, sound_variable}
 use Rattle.fitting_laws.specs.Values.{FitsBelow, IsValue}
-use Rattle.fitting_laws.specs.Walk.{AddsPlainly, AllStand, Comes, ExpressionsFit, PurposeStands, Stands, count}
+use Rattle.fitting_laws.specs.Walk.{AllStand, Comes, ExpressionsFit, PurposeStands, Stands, count}
 use Rattle.fitting_laws.proofs.ArraysMade.{Each, EachValue, arrays_with_fit, element-sound, elements-if-fit, elements-node-fits, more_parts, new_arrays_fit, no_parts}
 use Rattle.fitting_laws.proofs.Calls.{calls_on_fit, receivers_fit, simple_calls_fit, super_calls_fit}
 use Rattle.fitting_laws.proofs.Creations.{anonymous_creations_fit, creations_fit}
-use Rattle.fitting_laws.proofs.Gives.{behind, behind-check, behind-given, behind-need, weaker}
+use Rattle.fitting_laws.proofs.Gives.{behind, behind-check, behind-given, behind-need, checked, weaker}
 use Rattle.fitting_laws.proofs.Instances.{variable-there}
 use Rattle.fitting_laws.proofs.Lists.{in-cases}
 use Rattle.fitting_laws.proofs.Names.{assigned_names_fit, outer_this_fits, simple_names_fit, this_fits, updated_names_fit}
@@ -99,7 +99,7 @@ primitive-word primitive_word.Int = refl
 primitive-word primitive_word.Long = refl
 
 module _ (p : Program) (k : Known) (q : CoreProgram) (body : Body) (s : Scope) (represents : Represents p q) (has : HasMethods p q) (stands : ScopeStands p q body k.is_blank s) where
-  abbrev Value : TypedNode → Type 0
+  abbrev pub Value : TypedNode → Type 0
   Value t = IsValue q body p.heads t
 
   abbrev Target : TypedNode → Type 0
@@ -120,7 +120,7 @@ module _ (p : Program) (k : Known) (q : CoreProgram) (body : Body) (s : Scope) (
   in-limit : (n : ℕ) → types.is_in_limit n ≡ true → n ≤ 255
   in-limit n h = let e : nat_le n 255 ≡ true = h in grind (arith, nat_tests)
 
-  bare-sound : (t : TypeName) → Gives Sound (bare_type p s.place.here t)
+  pub bare-sound : (t : TypeName) → Gives Sound (bare_type p s.place.here t)
   unfolding bare_type
   bare-sound (primitive w dims span) = behind-check Sound BadArray span (types.is_in_limit dims) _ (λ h. sound_primitive (primitive-word w) (in-limit dims h))
   bare-sound (class_type n args dims span) = behind-check Sound UnknownName n.span (is_type p s.place.here (look_at p s.place.here n.parts)) _ (λ h.
@@ -156,7 +156,10 @@ module _ (p : Program) (k : Known) (q : CoreProgram) (body : Body) (s : Scope) (
   unfolding used
   not-void P j h = behind P (λ t. P t × (is_void t.type ≡ false)) j used h (λ t g. behind-check (λ u. P u × (is_void u.type ≡ false)) VoidValue (span_of t.node) (not (is_void t.type)) (gives t) (λ e. (g, is_false e)))
 
-  used-value : (j : Judged TypedNode) → Gives Value j → Gives (λ t. Value t × (is_void t.type ≡ false)) (value j)
+  abbrev pub Used : TypedNode → Type 0
+  Used t = Value t × (is_void t.type ≡ false)
+
+  pub used-value : (j : Judged TypedNode) → Gives Value j → Gives Used (value j)
   used-value j h = not-void Value j h
 
   -- ---- what an expression is for
@@ -280,39 +283,45 @@ module _ (p : Program) (k : Known) (q : CoreProgram) (body : Body) (s : Scope) (
   any (gives a) = tt
   any (faulty fault) = tt
 
-  assigned-by : (target : TypedNode) (j : Judged TypedNode) → (may_be_assigned p k.is_blank s (form_of target.node) ≡ true → Gives Value j) → Gives Value (assigned_by p k s target j)
-  unfolding not_final
-  assigned-by target j h = bool_cases (λ b. may_be_assigned p k.is_blank s (form_of target.node) ≡ b → Gives Value (bind j (λ t. bind (check FinalAssign (Rattle.je_typing.specs.Conversions.token_of target.node) (may_be_assigned p k.is_blank s (form_of target.node))) (λ u. gives t))))
-      (may_be_assigned p k.is_blank s (form_of target.node))
-      (λ _ e. behind Value Value j _ (h e) (λ t v. behind-check Value FinalAssign _ _ (gives t) (λ _. v)))
-      (λ _ e. behind (λ t. Unit {0}) Value j _ (any j) (λ t v. behind-check Value FinalAssign _ _ (gives t) (λ g. absurd (let none : true ≡ false = sym g ∙ e in cc)))) refl
+  assigned-by : (span : Span) (variable : Bool) (target : TypedNode) (j : Judged TypedNode) → (may_be_assigned p k.is_blank s (form_of target.node) ≡ true → Gives Value j) → Gives Value (assigned_by p k s span variable target j)
+  unfolding may_be_target not_final
+  assigned-by span variable target j h = bool_cases (λ b. may_be_assigned p k.is_blank s (form_of target.node) ≡ b → Gives Value (assigned_by p k s span variable target j)) (may_be_assigned p k.is_blank s (form_of target.node))
+      (λ _ e. behind Value Value j _ (h e) (λ t v. judged t (λ _. v)))
+      (λ _ e. behind (λ t. Unit {0}) Value j _ (any j) (λ t _. judged t (λ g. absurd (let none : true ≡ false = sym g ∙ e in cc)))) refl
+    where
+      not-final : Gives (λ u. may_be_assigned p k.is_blank s (form_of target.node) ≡ true) (not_final p k.is_blank s target)
+      not-final = checked FinalAssign (token_of target.node) (may_be_assigned p k.is_blank s (form_of target.node))
+
+      judged : (t : TypedNode) → (may_be_assigned p k.is_blank s (form_of target.node) ≡ true → Value t) → Gives Value (bind (may_be_target p k s span variable target) (λ u. gives t))
+      judged t v = behind (λ u. may_be_assigned p k.is_blank s (form_of target.node) ≡ true) Value (may_be_target p k s span variable target) (λ u. gives t)
+          (behind-check (λ u. may_be_assigned p k.is_blank s (form_of target.node) ≡ true) BadTarget span variable (not_final p k.is_blank s target) (λ _. not-final)) (λ u. v)
 
   above : (t : TypedNode) → Target t → may_be_assigned p k.is_blank s (form_of t.node) ≡ true → is_place (form_of t.node) ≡ true → IsAbove q body p.heads represents.heads represents.top t × IsPlace q body (form_of t.node)
   above t h m e = let r = h m e in (is-above q body p.heads represents.heads represents.top t r.0, r.1)
 
-  stepped-by : (o : BinOp) (old : Bool) (at operand_span span : Span) (t : TypedNode) → core_ops.is_step o ≡ true → Target t → Gives Value (assigned_by p k s t (stepped o old at operand_span span t))
-  stepped-by o old at operand_span span t is h = assigned-by t (stepped o old at operand_span span t) (λ m. stepped-fits q body p.heads represents.heads represents.top o old at operand_span span t is (above t h m))
+  stepped-by : (o : BinOp) (old : Bool) (at operand_span : Span) (variable : Bool) (span : Span) (t : TypedNode) → core_ops.is_step o ≡ true → Target t × (is_void t.type ≡ false) → Gives Value (step p k s o old at operand_span variable span t)
+  stepped-by o old at operand_span variable span t is h =
+      assigned-by operand_span variable t (stepped o old at operand_span span t) (λ m. stepped-fits q body p.heads represents.heads represents.top o old at operand_span span t is h.1 (above t h.0 m))
 
-  prefix-steps : (o : PrefixOp) (at operand_span span : Span) (j : Judged TypedNode) → Gives (Comes p k q body s (prefix_purpose o)) j → Gives Value (prefixed p k s o at operand_span span j)
-  prefix-steps prefix_op.Plus at operand_span span j h = behind (λ t. Value t × (is_void t.type ≡ false)) Value (value j) _ (used-value j h) (λ t v. plus-values q body p.heads represents.heads represents.string at span t v.0)
-  prefix-steps prefix_op.Minus at operand_span span j h = behind (λ t. Value t × (is_void t.type ≡ false)) Value (value j) _ (used-value j h) (λ t v. unary-values q body p.heads represents.heads represents.string unary_op.Minus at span t v.0)
-  prefix-steps prefix_op.Not at operand_span span j h = behind (λ t. Value t × (is_void t.type ≡ false)) Value (value j) _ (used-value j h) (λ t v. unary-values q body p.heads represents.heads represents.string unary_op.Not at span t v.0)
-  prefix-steps prefix_op.Tilde at operand_span span j h = behind (λ t. Value t × (is_void t.type ≡ false)) Value (value j) _ (used-value j h) (λ t v. unary-values q body p.heads represents.heads represents.string unary_op.Tilde at span t v.0)
-  prefix-steps prefix_op.Increment at operand_span span j h = behind (λ t. Target t × (is_void t.type ≡ false)) Value (value j) _ (not-void Target j h) (λ t v. stepped-by Add false at operand_span span t refl v.0)
-  prefix-steps prefix_op.Decrement at operand_span span j h = behind (λ t. Target t × (is_void t.type ≡ false)) Value (value j) _ (not-void Target j h) (λ t v. stepped-by Sub false at operand_span span t refl v.0)
+  abbrev Assigned : TypedNode → Type 0
+  Assigned t = Target t × (is_void t.type ≡ false)
 
-  postfix-steps : (o : PostfixOp) (at operand_span span : Span) (j : Judged TypedNode) → Gives Target j → Gives Value (bind (value j) (λ t. assigned_by p k s t (stepped (step_of o) true at operand_span span t)))
-  postfix-steps postfix_op.Increment at operand_span span j h = behind (λ t. Target t × (is_void t.type ≡ false)) Value (value j) _ (not-void Target j h) (λ t v. stepped-by Add true at operand_span span t refl v.0)
-  postfix-steps postfix_op.Decrement at operand_span span j h = behind (λ t. Target t × (is_void t.type ≡ false)) Value (value j) _ (not-void Target j h) (λ t v. stepped-by Sub true at operand_span span t refl v.0)
+  prefix-steps : (o : PrefixOp) (at operand_span : Span) (variable : Bool) (span : Span) (j : Judged TypedNode) → Gives (Comes p k q body s (prefix_purpose o)) j → Gives Value (prefixed p k s o at operand_span variable span j)
+  prefix-steps prefix_op.Plus at operand_span variable span j h = behind Used Value (value j) _ (used-value j h) (λ t v. plus-values q body p.heads represents.heads represents.string at span t v.0)
+  prefix-steps prefix_op.Minus at operand_span variable span j h = behind Used Value (value j) _ (used-value j h) (λ t v. unary-values q body p.heads represents.heads represents.string unary_op.Minus at span t v.0)
+  prefix-steps prefix_op.Not at operand_span variable span j h = behind Used Value (value j) _ (used-value j h) (λ t v. unary-values q body p.heads represents.heads represents.string unary_op.Not at span t v.0)
+  prefix-steps prefix_op.Tilde at operand_span variable span j h = behind Used Value (value j) _ (used-value j h) (λ t v. unary-values q body p.heads represents.heads represents.string unary_op.Tilde at span t v.0)
+  prefix-steps prefix_op.Increment at operand_span variable span j h = behind Assigned Value (value j) _ (not-void Target j h) (λ t v. stepped-by Add false at operand_span variable span t refl v)
+  prefix-steps prefix_op.Decrement at operand_span variable span j h = behind Assigned Value (value j) _ (not-void Target j h) (λ t v. stepped-by Sub false at operand_span variable span t refl v)
 
-  abbrev Plainly : Option BinaryOp → TypedNode → Type 0
-  Plainly None t = Unit {0}
-  Plainly (Some o) t = is_string t.type ≡ true → ty_of t.node ≡ erased p.heads t.type
+  postfix-steps : (o : PostfixOp) (at operand_span : Span) (variable : Bool) (span : Span) (j : Judged TypedNode) → Gives Target j → Gives Value (bind (value j) (λ t. step p k s (step_of o) true at operand_span variable span t))
+  postfix-steps postfix_op.Increment at operand_span variable span j h = behind Assigned Value (value j) _ (not-void Target j h) (λ t v. stepped-by Add true at operand_span variable span t refl v)
+  postfix-steps postfix_op.Decrement at operand_span variable span j h = behind Assigned Value (value j) _ (not-void Target j h) (λ t v. stepped-by Sub true at operand_span variable span t refl v)
 
-  assign-steps : (o : Option BinaryOp) (at left_span right_span span : Span) (left right : TypedNode) → Target left → is_void left.type ≡ false → Plainly o left → Value right
-      → Gives Value (assigned_by p k s left (assign_step p k s o at left_span right_span span left right))
-  assign-steps None at left_span right_span span left right h void plainly v = assigned-by left _ (λ m. assigned-fits q body p.heads represents.heads represents.top at left_span right_span span left right void v (above left h m))
-  assign-steps (Some o) at left_span right_span span left right h void plainly v = assigned-by left _ (λ m. compound-fits q body p.heads represents.heads represents.top o at left_span span left right (above left h m) plainly v)
+  assign-steps : (o : Option BinaryOp) (at left_span right_span : Span) (variable : Bool) (span : Span) (left right : TypedNode) → Assigned left → Value right
+      → Gives Value (assigned_by p k s left_span variable left (assign_step p k s o at left_span right_span span left right))
+  assign-steps None at left_span right_span variable span left right h v = assigned-by left_span variable left _ (λ m. assigned-fits q body p.heads represents.heads represents.top at left_span right_span span left right h.1 v (above left h.0 m))
+  assign-steps (Some o) at left_span right_span variable span left right h v = assigned-by left_span variable left _ (λ m. compound-fits q body p.heads represents.heads represents.top at left_span span left right o h.1 v (above left h.0 m))
 
   -- ---- elements of arrays
 
@@ -379,19 +388,9 @@ module _ (p : Program) (k : Known) (q : CoreProgram) (body : Body) (s : Scope) (
   abbrev Lengths : Expressions → List Part → Type 0
   Lengths es ps = EachValue q body p.heads ps × (length ps ≡ count p k q body s es)
 
-  -- a value that is used, and where it comes from
-  used-given : (P : TypedNode → Type 0) (j : Judged TypedNode) → Gives P j → Gives (λ t. P t × (is_void t.type ≡ false) × (j ≡ gives t)) (value j)
-  unfolding used
-  used-given P j h = behind-given P (λ t. P t × (is_void t.type ≡ false) × (j ≡ gives t)) j used h
-      (λ t e g. behind-check (λ u. P u × (is_void u.type ≡ false) × (j ≡ gives u)) VoidValue (span_of t.node) (not (is_void t.type)) (gives t) (λ f. (g, is_false f, e)))
-
-  plainly-of : (o : Option BinaryOp) (e : Expression) (t : TypedNode) → AddsPlainly p k q body s o e → expression p k s (target_purpose o) e ≡ gives t → Plainly o t
-  plainly-of None e t h g = tt
-  plainly-of (Some o) e t h g = h t g
-
-  target-comes : (o : Option BinaryOp) (t : TypedNode) → Comes p k q body s (target_purpose o) t → Target t
-  target-comes None t h = h
-  target-comes (Some o) t h = h
+  target-comes : (o : Option BinaryOp) (j : Judged TypedNode) → Gives (Comes p k q body s (target_purpose o)) j → Gives Target j
+  target-comes None j h = h
+  target-comes (Some o) j h = h
 
   target-stands : (o : Option BinaryOp) → PurposeStands p k q body s (target_purpose o)
   target-stands None = tt
@@ -404,9 +403,6 @@ module _ (p : Program) (k : Known) (q : CoreProgram) (body : Body) (s : Scope) (
   prefix-stands prefix_op.Minus = tt
   prefix-stands prefix_op.Not = tt
   prefix-stands prefix_op.Tilde = tt
-
-  abbrev Used : TypedNode → Type 0
-  Used t = Value t × (is_void t.type ≡ false)
 
   outer-values : (n : QualifiedName) (w : Span) → Gives Value (outer p k s n w)
   outer-values n w = behind-need Value UnknownName n.span (class_of_look (look_at p s.place.here n.parts)) _ (λ c e. outer_this_fits p q body s.place c n.span w represents stands.place)
@@ -457,9 +453,9 @@ module _ (p : Program) (k : Known) (q : CoreProgram) (body : Body) (s : Scope) (
     walk read (tree.array_init es span) w h = tt
     walk assigned (tree.array_init es span) w h = tt
     walk updated (tree.array_init es span) w h = tt
-    walk purpose (tree.prefix o at e span) w h = all-come purpose (expression p k s purpose (tree.prefix o at e span)) (behind-prefix o e span (prefixed p k s o at (written.span_of e) span (expression p k s (prefix_purpose o) e))
-        (prefix-steps o at (written.span_of e) span (expression p k s (prefix_purpose o) e) (walk (prefix_purpose o) e (prefix-stands o) h)))
-    walk purpose (tree.postfix o at e span) w h = all-come purpose (expression p k s purpose (tree.postfix o at e span)) (postfix-steps o at (written.span_of e) span (expression p k s updated e) (walk updated e tt h))
+    walk purpose (tree.prefix o at e span) w h = all-come purpose (expression p k s purpose (tree.prefix o at e span)) (behind-prefix o e span (prefixed p k s o at (written.span_of e) (is_variable e) span (expression p k s (prefix_purpose o) e))
+        (prefix-steps o at (written.span_of e) (is_variable e) span (expression p k s (prefix_purpose o) e) (walk (prefix_purpose o) e (prefix-stands o) h)))
+    walk purpose (tree.postfix o at e span) w h = all-come purpose (expression p k s purpose (tree.postfix o at e span)) (postfix-steps o at (written.span_of e) (is_variable e) span (expression p k s updated e) (walk updated e tt h))
     walk purpose (tree.cast t e span) w h = all-come purpose (expression p k s purpose (tree.cast t e span))
         (behind Sound Value (bare_type p s.place.here t) (λ to. bind (value (expression p k s read e)) (λ operand. Rattle.je_typing.specs.Casts.cast p.heads to (types.span_of t) span operand)) (bare-sound t)
         (λ to sound. behind Used Value (value (expression p k s read e)) (λ operand. Rattle.je_typing.specs.Casts.cast p.heads to (types.span_of t) span operand) (used-value (expression p k s read e) (walk read e tt h))
@@ -478,11 +474,11 @@ module _ (p : Program) (k : Known) (q : CoreProgram) (body : Body) (s : Scope) (
         (λ y u. behind Used Value (value (expression p k s read f)) (λ n. Rattle.je_typing.specs.Conditionals.choice p.heads at (written.span_of c) span condition y n) (used-value (expression p k s read f) (walk read f tt h.2))
         (λ n x. choice-values q body p.heads represents.heads represents.string at (written.span_of c) span condition y n u.1 x.1 v.0 u.0 x.0))))
     walk purpose (tree.assign o at e f span) w h = all-come purpose (expression p k s purpose (tree.assign o at e f span))
-        (behind (λ t. Comes p k q body s (target_purpose o) t × (is_void t.type ≡ false) × (expression p k s (target_purpose o) e ≡ gives t)) Value (value (expression p k s (target_purpose o) e))
-        (λ target. bind (value (expression p k s read f)) (λ right. assigned_by p k s target (assign_step p k s o at (written.span_of e) (written.span_of f) span target right)))
-        (used-given (Comes p k q body s (target_purpose o)) (expression p k s (target_purpose o) e) (walk (target_purpose o) e (target-stands o) h.0))
-        (λ target v. behind Used Value (value (expression p k s read f)) (λ right. assigned_by p k s target (assign_step p k s o at (written.span_of e) (written.span_of f) span target right)) (used-value (expression p k s read f) (walk read f tt h.1))
-        (λ right u. assign-steps o at (written.span_of e) (written.span_of f) span target right (target-comes o target v.0) v.1 (plainly-of o e target h.2 v.2) u.0)))
+        (behind Assigned Value (value (expression p k s (target_purpose o) e))
+        (λ target. bind (value (expression p k s read f)) (λ right. assigned_by p k s (written.span_of e) (is_variable e) target (assign_step p k s o at (written.span_of e) (written.span_of f) span target right)))
+        (not-void Target (expression p k s (target_purpose o) e) (target-comes o (expression p k s (target_purpose o) e) (walk (target_purpose o) e (target-stands o) h.0)))
+        (λ target v. behind Used Value (value (expression p k s read f)) (λ right. assigned_by p k s (written.span_of e) (is_variable e) target (assign_step p k s o at (written.span_of e) (written.span_of f) span target right)) (used-value (expression p k s read f) (walk read f tt h.1))
+        (λ right u. assign-steps o at (written.span_of e) (written.span_of f) (is_variable e) span target right v u.0)))
 
     walk-values : (es : Expressions) → AllStand p k q body s es → Gives (ArgumentsFit q body p.heads) (values p k s es)
     walk-values tree.no_expressions h = λ t i. elim i [ ]

@@ -1,5 +1,5 @@
 -- When a core program has what the classes of a program declare, and where a body of the core program stands.
-use Rattle.std.specs.Prelude.{◌≡◌, ℕ, suc, true, false, List, [], ◌∷◌, Some, None, slice_get, is_some, codes}
+use Rattle.std.specs.Prelude.{◌≡◌, ℕ, suc, ◌||◌, true, false, List, [], ◌∷◌, Some, None, slice_get, is_some, codes}
 use Rattle.je_base.specs.declared.span.NameId.{NameId}
 use Rattle.je_core.specs.declared.types.Base.{Base}
 use Rattle.je_core.specs.declared.value.Value.{Value}
@@ -8,7 +8,7 @@ use Rattle.je_ast.specs.declared.name.Identifier.{Identifier}
 use Rattle.je_classes.specs.Hierarchy.{class_at, library_class as library_class_of, object_class, supers_of}
 use Rattle.je_classes.specs.Members.{In, Member}
 use Rattle.je_classes.specs.Subtypes.{class_type}
-use Rattle.je_fitting.specs.Expressions.{Body, field_at}
+use Rattle.je_fitting.specs.Expressions.{Body, field_at, is_interface_sort}
 use Rattle.je_fitting.specs.Types.{of, type_of_value}
 use Rattle.je_scopes.specs.Looks.{a_class}
 use Rattle.je_scopes.specs.Scope.{member_class}
@@ -44,11 +44,15 @@ pub data IsConstantOf : SourceType → Constant → Type 0 where
   a_value : {b : Base} {v : Value} → type_of_value v ≡ Some (of b) → IsConstantOf (plain b 0) (value_constant v)
   a_text : {units : List ℕ} → IsConstantOf string_type (text_constant units)
 
--- the header of a class of the core program, which is of its kind
+-- The header of a class of the core program, which is of its kind. An interface is abstract, whether that is said of it or
+-- not (JLS 9.1.1.1).
 pub record HeadStands (heads : List ClassHead) (c : ℕ) (class : CoreClass) : Type 0 where
   pub head : ClassHead
   pub there : head_at heads c ≡ Some head
-  pub kind : class.kind ≡ head.kind
+  pub sort : class.kind.sort ≡ head.kind.sort
+  pub is_abstract : (class.kind.is_abstract || is_interface_sort class.kind.sort)
+      ≡ (head.kind.is_abstract || is_interface_sort head.kind.sort)
+  pub is_final : class.kind.is_final ≡ head.kind.is_final
 
 abbrev pub IsThere : CoreProgram → ℕ → Type 0
 IsThere program c = is_some (class_at program (class_numbered c)) ≡ true

@@ -1,18 +1,17 @@
 -- The law on expressions (JLS 15): what the walk over one gives fits, where what it names and makes stands in the
 -- core program.
-use Rattle.std.specs.Prelude.{◌≡◌, ℕ, ◌+◌, ◌<◌, true, List, Option, Some, None}
+use Rattle.std.specs.Prelude.{◌≡◌, ℕ, ◌+◌, ◌<◌, List, Some}
 use Rattle.je_base.specs.declared.span.Span.{Span}
-use Rattle.je_core.specs.Core.{CoreProgram, ty_of}
-use Rattle.je_ast.specs.declared.operator.BinaryOp.{BinaryOp}
+use Rattle.je_core.specs.Core.{CoreProgram}
 use Rattle.je_ast.specs.Trees.{Expression, Expressions}
 use Rattle.je_ast.specs.Trees as tree
 use Rattle.je_ast.specs.Types.{TypeName}
 use Rattle.je_fitting.specs.Expressions.{Body, CapturesFit}
 use Rattle.je_scopes.specs.SourceTypes.{SourceType}
-use Rattle.source_types.specs.Erasure.{class_numbered, erased}
+use Rattle.source_types.specs.Erasure.{class_numbered}
 use Rattle.header_typing.specs.Supers.{class_in}
 use Rattle.je_typing.specs.Judged.{gives}
-use Rattle.je_typing.specs.Typed.{TypedNode, is_string}
+use Rattle.je_typing.specs.Typed.{TypedNode}
 use Rattle.name_typing.specs.Program.{Program}
 use Rattle.body_types.specs.BodyTypes.{body_type}
 use Rattle.call_typing.specs.Constructors.{constructor_for}
@@ -46,12 +45,6 @@ module _ (p : Program) (k : Known) (program : CoreProgram) (body : Body) (s : Sc
     pub captures : CapturesFit program body (class_numbered (anonymous_at p word))
         (k.captures s.place (anonymous_at p word))
 
-  -- A String to which `+=` adds has that type where it is declared, too.
-  abbrev pub AddsPlainly : Option BinaryOp → Expression → Type 0
-  AddsPlainly None e = Unit {0}
-  AddsPlainly (Some o) e = (t : TypedNode) → expression p k s updated e ≡ gives t → is_string t.type ≡ true →
-      ty_of t.node ≡ erased p.heads t.type
-
   abbrev pub count : Expressions → ℕ
   count tree.no_expressions = 0
   count (tree.more_expressions e es) = count es + 1
@@ -81,7 +74,7 @@ module _ (p : Program) (k : Known) (program : CoreProgram) (body : Body) (s : Sc
     Stands (tree.binary o at e f span) = Stands e × Stands f
     Stands (tree.instance_of at e t span) = Stands e
     Stands (tree.conditional at c e f span) = Stands c × Stands e × Stands f
-    Stands (tree.assign o at e f span) = Stands e × Stands f × AddsPlainly o e
+    Stands (tree.assign o at e f span) = Stands e × Stands f
 
     pub AllStand : Expressions → Type 0
     AllStand tree.no_expressions = Unit {0}

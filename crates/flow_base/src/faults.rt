@@ -23,7 +23,7 @@ pub enum FaultKind {
 }
 
 /// A fault of flow, and the token or part where it stands.
-#[derive(Clone, Copy, PartialEq, Eq, Debug)]
+#[derive(Clone, Copy, PartialEq, Eq)]
 pub struct FlowFault {
     pub kind: FaultKind,
     pub span: Span,

@@ -6,7 +6,7 @@ ghost use Rattle.flow_base.specs.Ways.{same_way, same_label};
 use je_base::NameId;
 
 /// A way out of a statement: a `break` or a `continue` with a label or with none, or a `return` (JLS 14.15 to 14.17).
-#[derive(Clone, Copy, PartialEq, Eq, Debug)]
+#[derive(Clone, Copy, PartialEq, Eq)]
 pub enum Way {
     Breaks(Option<NameId>),
     Continues(Option<NameId>),

@@ -2,7 +2,7 @@
 
 ghost use Rattle.std.specs.Prelude.{◌≡◌, ◌++◌, IfOk, OnOk, option_map};
 ghost use Rattle.je_core.specs.View.{view, form_view};
-ghost use Rattle.je_typing.specs.Constants.{constant_value as the_constant_value, constant_in as the_constant_in, unless_null as the_unless_null, constant_text as the_constant_text, text_in as the_text_in, uses_of as the_uses_of, uses_in as the_uses_in, value_in as the_value_in, value_in_base as the_value_in_base};
+ghost use Rattle.je_typing.specs.Constants.{constant_value as the_constant_value, constant_in as the_constant_in, unless_null as the_unless_null, constant_text as the_constant_text, text_in as the_text_in, uses_of as the_uses_of, uses_in as the_uses_in, value_in as the_value_in, value_in_base as the_value_in_base, boolean_value as the_boolean_value};
 ghost use Rattle.je_fitting.specs.Types.{of as the_of};
 
 use fit_parts::of;
@@ -94,11 +94,20 @@ pub fn joined_uses(alloc: Global, left: &Expr, right: &Expr) -> Result<Vec<Use>,
     Ok(uses)
 }
 
+fn boolean_value(value: Value) -> Option<Value>
+    ensures { result ≡ the_boolean_value value }
+{
+    match value {
+        Value::Bool(_) => Some(value),
+        _ => None,
+    }
+}
+
 fn value_in_base(base: Base, value: Value) -> Option<Value>
     ensures { result ≡ the_value_in_base base value }
 {
     match base {
-        Base::Bool => Some(value),
+        Base::Bool => boolean_value(value),
         _ => try_convert(value, base),
     }
 }

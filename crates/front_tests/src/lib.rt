@@ -1,5 +1,9 @@
-//! Tests of the phases that a program's files go through, each over what these crates export, with ample memory.
+//! Tests of the parser's calls, of reports and of taming texts, each over what these crates export, with ample memory.
 #![tactic(auto)]
 
 #[cfg(test)]
-mod reading;
+mod parsing;
+#[cfg(test)]
+mod reports;
+#[cfg(test)]
+mod texts;

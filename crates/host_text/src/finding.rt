@@ -4,7 +4,7 @@ use crate::rules::Rule;
 use je_base::Span;
 
 /// A fault of a program.
-#[derive(Clone, Copy, PartialEq, Eq, Debug)]
+#[derive(Clone, Copy, PartialEq, Eq)]
 pub struct Finding {
     /// What is broken.
     pub rule: Rule,

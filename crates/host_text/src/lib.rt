@@ -8,8 +8,6 @@
 mod finding;
 mod reporting;
 mod rules;
-#[cfg(test)]
-mod tests;
 
 pub use finding::Finding;
 pub use reporting::report;

@@ -10,7 +10,7 @@ use name_faults::FaultKind as NameRule;
 use rule_breaks::ConfinementRule;
 
 /// A rule that a program may break, by the phase that finds it.
-#[derive(Clone, Copy, PartialEq, Eq, Debug)]
+#[derive(Clone, Copy, PartialEq, Eq)]
 pub enum Rule {
     /// Of tokens (JLS 3).
     Token(TokenRule),

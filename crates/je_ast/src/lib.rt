@@ -8,13 +8,11 @@
 //! `node_view` and its kin are the layer, which computes. So a parser makes a node by `make_expr(Expr::Binary { .. })` and its
 //! kin, whose clause says that the view of the result is the layer of the node, or by one of the functions for nodes with
 //! lists. A walk over a tree is two functions: one on the view, by `view_is` of `proofs/Views.antt`, which calls the
-//! other on the layer. `height` is a unit's height, and `renumber` gives its names the numbers that they have among the names
-//! of all files.
+//! other on the layer. `renumber` gives the names of a unit the numbers that they have among the names of all files.
 #![tactic(auto)]
 
 mod decl;
 mod expr;
-mod heights;
 mod making;
 mod name;
 mod operator;
@@ -24,7 +22,6 @@ mod ty_name;
 
 pub use decl::{ConstructorCall, Decl, Formal, Member, Modifier, ModifierKind, TypeParam, Unit};
 pub use expr::{Expr, Literal};
-pub use heights::height;
 pub use making::{
     make_array_init, make_block, make_call, make_call_on, make_class, make_class_type,
     make_constructor, make_constructor_call, make_decl, make_explicit_call, make_expr,

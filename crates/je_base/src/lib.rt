@@ -6,8 +6,6 @@
 mod memory;
 mod names;
 mod span;
-#[cfg(test)]
-mod tests;
 mod units;
 
 pub use memory::Memory;

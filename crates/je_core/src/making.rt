@@ -16,7 +16,7 @@ use std::alloc::Global;
 use std::rc::Rc;
 
 /// What every node carries beside its form: its erased type, its span, and the token that a rule points to.
-#[derive(Clone, Copy, PartialEq, Eq, Debug)]
+#[derive(Clone, Copy, PartialEq, Eq)]
 pub struct Mark {
     pub ty: Ty,
     pub span: Span,

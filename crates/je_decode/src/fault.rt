@@ -7,7 +7,7 @@ use je_base::Memory;
 use std::alloc::{AllocError, AllocFailed};
 
 /// Why bytes don't decode to characters.
-#[derive(Clone, Copy, PartialEq, Eq, Debug)]
+#[derive(Clone, Copy, PartialEq, Eq)]
 pub enum DecodeFault {
     /// Want of memory.
     Memory,

@@ -12,7 +12,7 @@ use Rattle.je_core.specs.Core.{CoreField, CoreMethod, CoreClass, CoreProgram}
 use Rattle.je_classes.specs.Hierarchy.{class_at, same_class, is_below, supers_of}
 use Rattle.je_classes.specs.Subtypes.{same_types}
 use Rattle.je_classes.specs.Members.{Member, same_name, is_private}
-use Rattle.je_classes.specs.Dispatch.{implemented, dispatched}
+use Rattle.je_classes.specs.Dispatch.{bridged, implemented, dispatched}
 use Rattle.je_classes.proofs.Lists.{bool_cases}
 use Rattle.je_fitting.specs.Expressions.{outer_count, method_at, is_constructor, can_be_made, places_up_to}
 use Rattle.je_fitting.specs.Members.{is_guest, results_agree, StandsFor, InitializerFits, FieldFits, MethodFits}
@@ -21,7 +21,7 @@ use Rattle.je_fitting.specs.Program.{Part, itself, a_field, a_method, PartFits, 
 use Rattle.je_fitting.specs.way.Deciding.{same_pair}
 use Rattle.je_fitting.specs.way.DecidingMembers.{stands_for, is_field_fit, is_method_fit, is_initializer_fit}
 use Rattle.je_fitting.specs.way.Quantifying.{implies, if_there}
-use Rattle.je_fitting.specs.way.DecidingClasses.{is_top, is_hidden_fit, begin_alike, begin_apart, is_superclass_fit, is_bridge_between, is_bridge_fit, is_instance_method, is_inherited_fit, are_inherited_fit, implements_all, are_supers_fit, are_named_there, are_bridges_fit, is_class_fit, is_whole_fit, is_program_fit}
+use Rattle.je_fitting.specs.way.DecidingClasses.{is_top, is_hidden_fit, begin_alike, begin_apart, is_superclass_fit, is_bridge_between, is_bridge_fit, is_instance_method, is_inherited_fit, is_unbridged, are_inherited_fit, implements_all, are_supers_fit, are_named_there, are_bridges_fit, is_class_fit, is_whole_fit, is_program_fit}
 use Rattle.je_fitting.proofs.Booleans.{two, three, four, five, both, is_false, is_not}
 use Rattle.je_fitting.proofs.Quantified.{implied, implying, on-there, if-there, each-place, places-pass, each-tested, all-tested}
 use Rattle.je_fitting.proofs.MembersDecided.{types-equal, types-same, stands_sound, stands_complete, field_sound, field_complete, method_sound, method_complete, initializer_sound, initializer_complete}
@@ -158,14 +158,20 @@ module _ (p : CoreProgram) where
       (λ _ g. refl)
       (λ _ g. if-there (λ by. stands_for p by k) (method_at p m.class m.at) (λ by there. stands_complete p by k (f m by refl g there))) refl
 
+  none-of : (b : Option Member) → not (is_some b) ≡ true → b ≡ None
+  none-of None e = refl
+  none-of (Some m) e = absurd cc
+
   inherited-sound : (class : ClassId) → are_inherited_fit p class ≡ true → InheritedFit p class
-  inherited-sound class e above at k i np m by q f there = one-inherited class k (implemented p class k)
-      (implied (each-tested p (λ above at k. implies (is_instance_method p class above k && not (is_private k)) (is_inherited_fit p class k (implemented p class k))) e above at k i.there) (both (instance-sound class above at k i) (is_not np))) m by q f there
+  inherited-sound class e above at k i np none m by q f there = one-inherited class k (implemented p class k)
+      (implied (each-tested p (λ above at k. implies (is_instance_method p class above k && not (is_private k) && is_unbridged p class above at) (is_inherited_fit p class k (implemented p class k))) e above at k i.there)
+      (both (both (instance-sound class above at k i) (is_not np)) (ap (λ (b : Option Member). not (is_some b)) none))) m by q f there
 
   inherited-complete : (class : ClassId) → InheritedFit p class → are_inherited_fit p class ≡ true
-  inherited-complete class f = all-tested p (λ above at k. implies (is_instance_method p class above k && not (is_private k)) (is_inherited_fit p class k (implemented p class k)))
-      (λ above at k there. implying (is_instance_method p class above k && not (is_private k)) (is_inherited_fit p class k (implemented p class k))
-      (λ h. inherited-one class k (implemented p class k) (λ m by q g t. f above at k (instance-complete class above at k there (two {a = is_instance_method p class above k} {b = not (is_private k)} h).0) (is_false (two {a = is_instance_method p class above k} {b = not (is_private k)} h).1) m by q g t)))
+  inherited-complete class f = all-tested p (λ above at k. implies (is_instance_method p class above k && not (is_private k) && is_unbridged p class above at) (is_inherited_fit p class k (implemented p class k)))
+      (λ above at k there. implying (is_instance_method p class above k && not (is_private k) && is_unbridged p class above at) (is_inherited_fit p class k (implemented p class k))
+      (λ h. let q = three {a = is_instance_method p class above k} {b = not (is_private k)} {c = is_unbridged p class above at} h in
+      inherited-one class k (implemented p class k) (λ m by r g t. f above at k (instance-complete class above at k there q.0) (is_false q.1) (none-of (bridged (class_at p class) (record { class = above; at = at })) q.2) m by r g t)))
 
   implements-sound : (class : ClassId) → implements_all p class ≡ true → Implements p class
   implements-sound class e above at k i =

@@ -142,9 +142,9 @@ module _ (p : CoreProgram) (b : Body) where
     complete _ (index {a = a} {i = i} {t = t} q e r n) = both (both (both (complete a q) (rw e (same (array_of t)))) (complete i r)) n
     complete _ (length_of {a = a} {t = t} q e) = both (both (complete a q) (rw e (let z : nat_lt 0 (suc t.dims) ≡ true = grind (arith, nat_tests) in z))) (same int)
     complete _ (assign {place = place} {value = value} {form = form} {t = t} e q k v a z) = both (both (both (both (complete place q) (rw e (place-complete form k))) (complete value v)) a) (rw e z)
-    complete _ (step {place = place} {form = form} {t = t} e q k n s) = both (both (both (complete place q) (rw e (same t))) (rw e (place-complete form k))) (both n s)
-    complete _ (update {place = place} {operand = operand} {form = form} {t = t} e q k v u) =
-        both (both (both (complete place q) (rw e (same t))) (rw e (place-complete form k))) (both (both (complete operand v) u) refl)
+    complete _ (step {place = place} {form = form} e q k z n s) = both (both (both (complete place q) (rw e z)) (rw e (place-complete form k))) (both n s)
+    complete _ (update {place = place} {operand = operand} {form = form} e q k z v u) =
+        both (both (both (complete place q) (rw e z)) (rw e (place-complete form k))) (both (both (complete operand v) u) refl)
     complete _ (unary {e = e} q k) = both (both (complete e q) k) (same (ty_of e))
     complete _ (binary {o = o} {l = l} {r = r} q k t) = both (both (both (complete l q) (complete r k)) t) (same (gives (sort_of o) (ty_of l)))
     complete _ (and {l = l} {r = r} q k x y) = both (both (both (both (complete l q) (complete r k)) x) y) (same bool)

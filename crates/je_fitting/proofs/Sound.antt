@@ -205,7 +205,7 @@ module _ (p : CoreProgram) (b : Body) where
     form_sound (core.Assign (node f u s k) value) t span at e = let q = five e in
         assign refl (form_sound f u s k q.0) (place-sound f q.1) (sound value q.2) q.3 q.4
     form_sound (core.Update (node f u s k) o operand old) t span at e = let q = four e in
-        update_sound f u s k o operand old t span at (form_sound f u s k q.0) (same_type-equal u t q.1) (place-sound f q.2) q.3
+        update_sound f u s k o operand old t span at (form_sound f u s k q.0) q.1 (place-sound f q.2) q.3
     form_sound (core.Unary o e) t span at h = let q = three h in told (core.Unary o e) (ty_of e) t span at q.2 (unary (sound e q.0) q.1)
     form_sound (core.Binary o l r) t span at h = let q = four h in told (core.Binary o l r) (gives (sort_of o) (ty_of l)) t span at q.3 (binary (sound l q.0) (sound r q.1) q.2)
     form_sound (core.And l r) t span at h = let q = five h in told (core.And l r) bool t span at q.4 (and (sound l q.0) (sound r q.1) q.2 q.3)
@@ -230,11 +230,11 @@ module _ (p : CoreProgram) (b : Body) where
     form_sound (core.ArrayOf values) t span at h = let q = four h in
         of_type (core.ArrayOf values) (array_of (element_of t)) t span at (sym (an-array t q.1)) (array_with (all_sound values q.0) (all-of (λ v. agrees p v (element_of t)) (types_of (list_of values)) q.2) q.3)
 
-    update_sound : (f : CoreForm) (u : Ty) (s k : Span) (o : BinOp) (operand : MaybeCore) (old : Bool) (t : Ty) (span at : Span) → Fits p b (node f u s k) → u ≡ t → IsPlace p b f →
+    update_sound : (f : CoreForm) (u : Ty) (s k : Span) (o : BinOp) (operand : MaybeCore) (old : Bool) (t : Ty) (span at : Span) → Fits p b (node f u s k) → agrees p t u ≡ true → IsPlace p b f →
         is_operand_fit p b o t old operand ≡ true → Fits p b (node (core.Update (node f u s k) o operand old) t span at)
-    update_sound f u s k o no_core old t span at fits e place h = let q = two h in step (ap (λ (z : Ty). node f z s k) e) fits place q.0 q.1
+    update_sound f u s k o no_core old t span at fits e place h = let q = two h in step refl fits place e q.0 q.1
     update_sound f u s k o (a_core x) old t span at fits e place h = let q = three h in
-        subst (λ (z : Bool). Fits p b (node (core.Update (node f u s k) o (a_core x) z) t span at)) (sym (is_false q.2)) (update (ap (λ (z : Ty). node f z s k) e) fits place (sound x q.0) q.1)
+        subst (λ (z : Bool). Fits p b (node (core.Update (node f u s k) o (a_core x) z) t span at)) (sym (is_false q.2)) (update refl fits place e (sound x q.0) q.1)
 
     maybe_sound : (c : ClassId) (o : MaybeCore) → is_maybe_fit p b c o ≡ true → MaybeFits p b c o
     maybe_sound c no_core e = nothing

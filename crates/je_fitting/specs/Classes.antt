@@ -11,7 +11,7 @@ use Rattle.je_core.specs.Core.{CoreField, CoreMethod, CoreClass, CoreProgram}
 use Rattle.je_classes.specs.Hierarchy.{class_at, same_class, is_below, object_class, supers_of}
 use Rattle.je_classes.specs.Subtypes.{class_type, is_reference, same_type}
 use Rattle.je_classes.specs.Members.{Member, same_name, is_hidden_access, is_private}
-use Rattle.je_classes.specs.Dispatch.{implemented, dispatched}
+use Rattle.je_classes.specs.Dispatch.{bridged, implemented, dispatched}
 use Rattle.je_fitting.specs.Types.{int, string, is_primitive}
 use Rattle.je_fitting.specs.Expressions.{outer_count, method_at, is_constructor, is_interface_sort, can_be_made}
 pub use Rattle.je_fitting.specs.Members.{is_interface}
@@ -111,9 +111,10 @@ pub record IsInstanceMethod (program : CoreProgram) (class : ClassId) (above : C
   pub own : k.flags.is_static ≡ false
   pub no_constructor : is_constructor program k ≡ false
 
--- what the class inherits to stand for a method of its signature fits it
+-- what the class inherits to stand for a method of its signature fits it, where none of its bridges runs another one for it
 abbrev pub InheritedFit : CoreProgram → ClassId → Type 0
-InheritedFit program class = (above : ClassId) (at : ℕ) (k : CoreMethod) → IsInstanceMethod program class above at k → is_private k ≡ false → (m : Member) (by : CoreMethod) →
+InheritedFit program class = (above : ClassId) (at : ℕ) (k : CoreMethod) → IsInstanceMethod program class above at k → is_private k ≡ false →
+    bridged (class_at program class) (record { class = above; at = at }) ≡ None → (m : Member) (by : CoreMethod) →
     implemented program class k ≡ Some m → same_class m.class class ≡ false → method_at program m.class m.at ≡ Some by → StandsFor program by k
 
 -- a class of which there are objects has an implementation of each method

@@ -154,10 +154,11 @@ module _ (program : CoreProgram) (body : Body) where
       length_of : {a : Core} {t : Ty} {span at : Span} → Fits a → ty_of a ≡ array_of t → Fits (node (core.Length a) int span at)
       assign : {place value : Core} {form : CoreForm} {t u : Ty} {span at span' at' : Span} → place ≡ node form t span' at' → Fits place → IsPlace form →
           Fits value → agrees program (ty_of value) u ≡ true → agrees program u t ≡ true → Fits (node (core.Assign place value) u span at)
-      step : {place : Core} {form : CoreForm} {t : Ty} {o : BinOp} {old : Bool} {span at span' at' : Span} → place ≡ node form t span' at' → Fits place → IsPlace form →
-          is_number t ≡ true → is_step o ≡ true → Fits (node (core.Update place o no_core old) t span at)
-      update : {place operand : Core} {form : CoreForm} {t : Ty} {o : BinOp} {span at span' at' : Span} → place ≡ node form t span' at' → Fits place → IsPlace form →
-          Fits operand → updates o t (ty_of operand) ≡ true → Fits (node (core.Update place o (a_core operand) false) t span at)
+      -- the result goes back into its place: a String also into one of a type above it
+      step : {place : Core} {form : CoreForm} {t u : Ty} {o : BinOp} {old : Bool} {span at span' at' : Span} → place ≡ node form t span' at' → Fits place → IsPlace form →
+          agrees program u t ≡ true → is_number u ≡ true → is_step o ≡ true → Fits (node (core.Update place o no_core old) u span at)
+      update : {place operand : Core} {form : CoreForm} {t u : Ty} {o : BinOp} {span at span' at' : Span} → place ≡ node form t span' at' → Fits place → IsPlace form →
+          agrees program u t ≡ true → Fits operand → updates o u (ty_of operand) ≡ true → Fits (node (core.Update place o (a_core operand) false) u span at)
       unary : {o : UnOp} {e : Core} {span at : Span} → Fits e → takes_one o (ty_of e) ≡ true → Fits (node (core.Unary o e) (ty_of e) span at)
       binary : {o : BinOp} {l r : Core} {span at : Span} → Fits l → Fits r → takes (sort_of o) (ty_of l) (ty_of r) ≡ true →
           Fits (node (core.Binary o l r) (gives (sort_of o) (ty_of l)) span at)

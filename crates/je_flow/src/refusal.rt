@@ -4,7 +4,7 @@ use flow_base::FlowFault;
 use je_core::Memory;
 
 /// Why a program is refused by the rules of flow.
-#[derive(Clone, Copy, PartialEq, Eq, Debug)]
+#[derive(Clone, Copy, PartialEq, Eq)]
 pub enum Refusal {
     /// Want of memory.
     Memory,

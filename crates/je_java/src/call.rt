@@ -3,7 +3,7 @@
 use je_core::{ClassId, ObjId};
 
 /// What a call from outside is made on.
-#[derive(Clone, Copy, PartialEq, Eq, Debug)]
+#[derive(Clone, Copy, PartialEq, Eq)]
 pub enum Receiver {
     /// Nothing: the method is static.
     None,

@@ -11,7 +11,7 @@ use crate::runs::hexadecimal_run;
 use je_decode::Character;
 
 /// An integer literal.
-#[derive(Clone, Copy, PartialEq, Eq, Debug)]
+#[derive(Clone, Copy, PartialEq, Eq)]
 pub struct Number {
     /// It is written in decimal digits, and not in octal or hexadecimal ones.
     pub decimal: bool,

@@ -26,7 +26,7 @@ struct PieceFound<'a> {
 }
 
 /// Why a literal has no units.
-#[derive(Clone, Copy, Debug)]
+#[derive(Clone, Copy)]
 pub enum TextFault {
     /// Want of memory.
     Memory,

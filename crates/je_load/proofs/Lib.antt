@@ -1,2 +1,3 @@
 mod Rows
 mod Growing
+pub mod Beginning

@@ -3,7 +3,8 @@
 //! - `specs/Loading.antt`: the world that a load begins in, the start of each class, and how a load ends.
 //!
 //! `proofs/Rows.antt` shows a cycle of classes, a superclass before its class, an exception out of an initializer that
-//! passes a `try` round it, and in which class units are spent. The crate has no code: no machine runs a load yet.
+//! passes a `try` round it, and in which class units are spent. The crate has no code: the machine
+//! of `je_interp` runs a load.
 #![tactic(auto)]
 
 ghost use Rattle.std.specs.Prelude.{◌≡◌, ℕ, List, Option};

@@ -110,7 +110,7 @@ module _ (p : Source) (whole : HasLibrary p) where
   declared-below : (place : Option ℕ) (x : NameId) → IsBelow (length p.sites) (declared p place x)
   declared-below place x = below-found (length p.sites) (first_declared 0 p.sites place x) (λ c e. let l : c < 0 + length p.sites = first-below 0 p.sites place x c e in omega (arith, l))
 
-  member-below : (known : Known) (n : ℕ) (x : NameId) (c : ℕ) → IsBelow (length p.sites) (member_within p known n x c)
+  pub member-below : (known : Known) (n : ℕ) (x : NameId) (c : ℕ) → IsBelow (length p.sites) (member_within p known n x c)
   member-below known zero x c = λ d e. absurd cc
   member-below known (suc n) x c = below-further (length p.sites) _ _ (declared-below (Some c) x)
       (below-supers (length p.sites) _ (known c) (λ d. below-inheritable (length p.sites) p _ (member-below known n x d)))

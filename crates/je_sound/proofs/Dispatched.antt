@@ -91,13 +91,13 @@ module _ (p : CoreProgram) where
 -- ---- the method that implements one
 
 -- the first that can override a method, from a place on
-record IsOwnAt (m : CoreMethod) (n : ℕ) (ks : List CoreMethod) (i : ℕ) (k : CoreMethod) : Type 0 where
-  at : ℕ
-  place : i ≡ n + at
-  there : slice_get ks at ≡ Some k
-  passes : (is_own k && same_signature k m) ≡ true
+pub record IsOwnAt (m : CoreMethod) (n : ℕ) (ks : List CoreMethod) (i : ℕ) (k : CoreMethod) : Type 0 where
+  pub at : ℕ
+  pub place : i ≡ n + at
+  pub there : slice_get ks at ≡ Some k
+  pub passes : (is_own k && same_signature k m) ≡ true
 
-own-at : (m : CoreMethod) (n : ℕ) (ks : List CoreMethod) (i : ℕ) (k : CoreMethod) → own_from m n ks ≡ Some (i, k) → IsOwnAt m n ks i k
+pub own-at : (m : CoreMethod) (n : ℕ) (ks : List CoreMethod) (i : ℕ) (k : CoreMethod) → own_from m n ks ≡ Some (i, k) → IsOwnAt m n ks i k
 own-at m n [] i k e = absurd cc
 own-at m n (j ∷ ks) i k e = by (is_own j && same_signature j m) refl e (own-at m (suc n) ks i k)
   where
@@ -120,11 +120,11 @@ own-at m n (j ∷ ks) i k e = by (is_own j && same_signature j m) refl e (own-at
         record { at = suc r.at; place = omega (arith, s); there = r.there; passes = r.passes }
 
 module _ (p : CoreProgram) (m : CoreMethod) where
-  record Implements (r : Member) : Type 0 where
-    by : CoreMethod
-    there : method_of p r ≡ Some by
-    passes : (is_own by && same_signature by m) ≡ true
-    concrete : by.flags.is_abstract ≡ false
+  pub record Implements (r : Member) : Type 0 where
+    pub by : CoreMethod
+    pub there : method_of p r ≡ Some by
+    pub passes : (is_own by && same_signature by m) ≡ true
+    pub concrete : by.flags.is_abstract ≡ false
 
   placed-here : (class : ClassId) (c : CoreClass) (i : ℕ) (k : CoreMethod) (r : Member) → class_at p class ≡ Some c → own_from m 0 c.methods ≡ Some (i, k) →
       unless_abstract k (record { class = class; at = i }) ≡ Some r → Implements r
@@ -160,19 +160,19 @@ module _ (p : CoreProgram) (m : CoreMethod) where
       by None q h more = absurd cc
       by (Some c) q h more = at-class c q (own_from m 0 c.methods) refl h more
 
-  is-implemented : (class : ClassId) (r : Member) → implemented p class m ≡ Some r → Implements r
+  pub is-implemented : (class : ClassId) (r : Member) → implemented p class m ≡ Some r → Implements r
   unfolding implemented
   is-implemented class r e = upwards _ (Some class) r e
 
 -- ---- a bridge
 
-record IsBridge (P : Bridge → Type 0) (m r : Member) : Type 0 where
-  bridge : Bridge
-  fits : P bridge
-  from : (let x : Member = record { class = bridge.method.0; at = bridge.method.1 } in x) ≡ m
-  to : (let x : Member = record { class = bridge.by.0; at = bridge.by.1 } in x) ≡ r
+pub record IsBridge (P : Bridge → Type 0) (m r : Member) : Type 0 where
+  pub bridge : Bridge
+  pub fits : P bridge
+  pub from : (let x : Member = record { class = bridge.method.0; at = bridge.method.1 } in x) ≡ m
+  pub to : (let x : Member = record { class = bridge.by.0; at = bridge.by.1 } in x) ≡ r
 
-is-bridge : (P : Bridge → Type 0) (bs : List Bridge) (m r : Member) → All P bs → bridged_in bs m ≡ Some r → IsBridge P m r
+pub is-bridge : (P : Bridge → Type 0) (bs : List Bridge) (m r : Member) → All P bs → bridged_in bs m ≡ Some r → IsBridge P m r
 is-bridge P [] m r a e = absurd cc
 is-bridge P (b ∷ bs) m r a e = by (same_member (record { class = b.method.0; at = b.method.1 }) m) refl e (is-bridge P bs m r (All-tail P b bs a))
   where
@@ -191,22 +191,22 @@ is-bridge P (b ∷ bs) m r a e = by (same_member (record { class = b.method.0; a
 
 -- ---- the method that runs
 
-some-of : {A : Type 0} (o : Option A) → is_some o ≡ true → (x : A) × (o ≡ Some x)
+pub some-of : {A : Type 0} (o : Option A) → is_some o ≡ true → (x : A) × (o ≡ Some x)
 some-of None e = absurd cc
 some-of (Some x) e = (x, refl)
 
 module _ (p : CoreProgram) (f : FitsProgram p) where
-  class-fits : (c : ClassId) (k : CoreClass) → class_at p c ≡ Some k → ClassFits p c k
+  pub class-fits : (c : ClassId) (k : CoreClass) → class_at p c ≡ Some k → ClassFits p c k
   class-fits c k there = itself_of p c k ((f c k there).parts itself is_itself)
 
   of-part : (class : ClassId) (c : CoreClass) (at : ℕ) (m : CoreMethod) → slice_get c.methods at ≡ Some m → PartFits p class c (a_method at) → MethodFits p class c m
   of-part class c at m e (method_fits {m = k} q fits) = subst (MethodFits p class c) (same_Some k m (sym q ∙ e)) fits
 
-  record FitsThere (class : ClassId) (m : CoreMethod) : Type 0 where
-    c : CoreClass
-    fits : MethodFits p class c m
+  pub record FitsThere (class : ClassId) (m : CoreMethod) : Type 0 where
+    pub c : CoreClass
+    pub fits : MethodFits p class c m
 
-  method-fits : (class : ClassId) (at : ℕ) (m : CoreMethod) → method_at p class at ≡ Some m → FitsThere class m
+  pub method-fits : (class : ClassId) (at : ℕ) (m : CoreMethod) → method_at p class at ≡ Some m → FitsThere class m
   method-fits class at m e = by (class_at p class) refl e
     where
       by : (o : Option CoreClass) → class_at p class ≡ o → slice_get (methods_in o) at ≡ Some m → FitsThere class m
@@ -257,8 +257,8 @@ module _ (p : CoreProgram) (f : FitsProgram p) where
             }
 
     -- any other one is implemented
-    stands : is_private named ≡ false → (r : Member) → implemented p own named ≡ Some r → (i : Implements p named r) → StandsFor p i.by named
-    stands public r e i =
+    stands : is_private named ≡ false → bridged (class_at p own) member ≡ None → (r : Member) → implemented p own named ≡ Some r → (i : Implements p named r) → StandsFor p i.by named
+    stands public none r e i =
         let q = two {a = is_own i.by} {b = same_signature i.by named} i.passes in
         by q.1 (own-flag i.by q.0) (same_class r.class own) refl
       where
@@ -284,12 +284,12 @@ module _ (p : CoreProgram) (f : FitsProgram p) where
               not_private = public;
               no_constructor = method;
             })
-        by alike static false s = (class-fits own o there).inherited class at named (record { there = is; is_above = above; own = instance; no_constructor = method }) public r i.by e s i.there
+        by alike static false s = (class-fits own o there).inherited class at named (record { there = is; is_above = above; own = instance; no_constructor = method }) public none r i.by e s i.there
 
-    implemented-runs : is_private named ≡ false → (r : Member) → implemented p own named ≡ Some r → Runs r
-    implemented-runs public r e =
+    implemented-runs : is_private named ≡ false → bridged (class_at p own) member ≡ None → (r : Member) → implemented p own named ≡ Some r → Runs r
+    implemented-runs public none r e =
         let i = is-implemented p named own r e in
-        let s = stands public r e i in
+        let s = stands public none r e i in
         let alike = (two {a = is_own i.by} {b = same_signature i.by named} i.passes).1 in
         let params = (two {a = same_name i.by.name named.name} {b = same_types i.by.params named.params} alike).1 in
         record {
@@ -303,12 +303,12 @@ module _ (p : CoreProgram) (f : FitsProgram p) where
           };
         }
 
-    without-bridge : (r : Member) → (b : Bool) → is_private named ≡ b → (if b then unless_abstract named member else implemented p own named) ≡ Some r → Runs r
-    without-bridge r true q e = private-runs r e
-    without-bridge r false q e = implemented-runs q r e
+    without-bridge : bridged (class_at p own) member ≡ None → (r : Member) → (b : Bool) → is_private named ≡ b → (if b then unless_abstract named member else implemented p own named) ≡ Some r → Runs r
+    without-bridge none r true q e = private-runs r e
+    without-bridge none r false q e = implemented-runs q none r e
 
     dispatched-runs : (r : Member) → (x : Option Member) → bridged (class_at p own) member ≡ x → bridged_or x (implemented_or_private p own member (method_of p member)) ≡ Some r → Runs r
-    dispatched-runs r None q e = without-bridge r (is_private named) refl (ap (implemented_or_private p own member) (sym is) ∙ e)
+    dispatched-runs r None q e = without-bridge q r (is_private named) refl (ap (implemented_or_private p own member) (sym is) ∙ e)
     dispatched-runs r (Some y) q e = bridge-runs r (is-bridge (BridgeFits p own) o.bridges member r (class-fits own o there).bridges (sym (ap (λ k. bridged k member) there) ∙ q ∙ e))
 
     runs-for : can_be_made o ≡ true → (to : Member) × (by : CoreMethod) × (dispatched p own (member_at class at) ≡ Some to) × (method_of p to ≡ Some by) × RunsFor p by named

@@ -99,7 +99,7 @@ unfolding library_class all_due rows
 store-due number = record { c = class_due number 22 (class_row class.Store); there = refl; super = refl; own = refl }
 
 module _ (p : CoreProgram) (s : LibraryStands p) where
-  there-too : (k : ClassId) (c : CoreClass) → slice_get (all_due s.number) k.0 ≡ Some c → class_at p k ≡ Some c
+  pub there-too : (k : ClassId) (c : CoreClass) → slice_get (all_due s.number) k.0 ≡ Some c → class_at p k ≡ Some c
   there-too k c e = ap (λ cs. slice_get cs k.0) s.first ∙ in-front (all_due s.number) s.others k.0 c e
 
   above-none : (n : ℕ) → fields_upwards p n None ≡ []

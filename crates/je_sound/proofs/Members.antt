@@ -37,7 +37,7 @@ use Rattle.je_sound.proofs.Values.{agree-cases}
 -- ---- the classes above an object's
 
 -- of two class types that agree, the second is Object or the first is below it
-classes-agree : (p : CoreProgram) (k class : ClassId) → agrees p (class_type k) (class_type class) ≡ true → (same_class class object_class ≡ true) ⊎ (is_below p k class ≡ true)
+pub classes-agree : (p : CoreProgram) (k class : ClassId) → agrees p (class_type k) (class_type class) ≡ true → (same_class class object_class ≡ true) ⊎ (is_below p k class ≡ true)
 unfolding is_subtype
 classes-agree p k class e = by (agree-cases p (class_type k) (class_type class) e)
   where
@@ -50,7 +50,7 @@ classes-agree p k class e = by (agree-cases p (class_type k) (class_type class) 
         (λ q g. inl q) (λ q g. inr g) h
 
 -- of an array's type and a class type that agree, the second is Object
-array-agrees : (p : CoreProgram) (element : Ty) (class : ClassId) → agrees p (array_of element) (class_type class) ≡ true → same_class class object_class ≡ true
+pub array-agrees : (p : CoreProgram) (element : Ty) (class : ClassId) → agrees p (array_of element) (class_type class) ≡ true → same_class class object_class ≡ true
 unfolding is_subtype
 array-agrees p element class e = by (agree-cases p (array_of element) (class_type class) e)
   where
@@ -92,7 +92,7 @@ device-bare k e =
 module _ (p : CoreProgram) (f : FitsProgram p) where
   -- every class that is no interface is below Object
   module _ (a : IsAcyclic p) where
-    extended : (s : ClassId) (o : Option CoreClass) → class_at p s ≡ o → can_be_extended o ≡ true → (c : CoreClass) × (class_at p s ≡ Some c) × (is_interface_sort c.kind.sort ≡ false)
+    pub extended : (s : ClassId) (o : Option CoreClass) → class_at p s ≡ o → can_be_extended o ≡ true → (c : CoreClass) × (class_at p s ≡ Some c) × (is_interface_sort c.kind.sort ≡ false)
     extended s None q e = absurd cc
     extended s (Some c) q e = (c, q, by (is_interface_sort c.kind.sort) c.kind.is_final e)
       where
@@ -115,7 +115,7 @@ module _ (p : CoreProgram) (f : FitsProgram p) where
             let falls : a.depth s < a.depth class = a.falls class s up in
             above up (more s k.0 (omega (arith, l, falls)) k.1 k.2)
 
-  object-above : (class : ClassId) (c : CoreClass) → class_at p class ≡ Some c → is_interface_sort c.kind.sort ≡ false → is_below p class object_class ≡ true
+  pub object-above : (class : ClassId) (c : CoreClass) → class_at p class ≡ Some c → is_interface_sort c.kind.sort ≡ false → is_below p class object_class ≡ true
   object-above class c there plain =
       let some : class.0 < length p.classes = slice_get_within p.classes class.0 c there in
       let a = acyclic p f (omega (arith, some)) in
@@ -173,7 +173,7 @@ fields_are_there p world o class c at slot g f library s there v field place = b
 
 -- ---- methods
 
-no-interface : (c : CoreClass) → can_be_made c ≡ true → is_interface_sort c.kind.sort ≡ false
+pub no-interface : (c : CoreClass) → can_be_made c ≡ true → is_interface_sort c.kind.sort ≡ false
 no-interface c e = by c.kind.is_abstract (is_interface_sort c.kind.sort) e
   where
     by : (a b : Bool) → not (a || b) ≡ true → b ≡ false

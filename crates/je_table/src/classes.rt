@@ -6,7 +6,7 @@ ghost use Rattle.je_table.specs.Rows.{class_said};
 use crate::marker::{EQUATABLE, IMMUTABLE, POWERLESS, SELFLESS};
 
 /// A class or interface of the library. Its number is its place in `CLASSES`.
-#[derive(Clone, Copy, PartialEq, Eq, Debug)]
+#[derive(Clone, Copy, PartialEq, Eq)]
 pub enum LibraryClass {
     Object,
     String,
@@ -61,7 +61,7 @@ impl LibraryClass {
 }
 
 /// What the language says of a library class.
-#[derive(Clone, Copy, Debug)]
+#[derive(Clone, Copy)]
 pub struct ClassRow {
     /// The full name, as `java.lang.String`.
     pub name: &'static str,
@@ -78,7 +78,7 @@ pub struct ClassRow {
 }
 
 /// A class that stands directly above another.
-#[derive(Clone, Copy, PartialEq, Eq, Debug)]
+#[derive(Clone, Copy, PartialEq, Eq)]
 pub struct Super {
     /// The class or interface above.
     pub class: LibraryClass,

@@ -37,6 +37,3 @@ pub use library::{LIBRARY, member_rows};
 pub use members::{CostKind, MemberRow, find_member};
 pub use types::{RowBase, RowType};
 pub use words::{KEYWORDS, OPERATORS, find_keyword, find_word};
-
-#[cfg(test)]
-mod tests;

@@ -7,7 +7,7 @@ ghost use Rattle.je_table.specs.Members.{key_cmp, keys, key_of, place_of_key};
 use crate::types::RowType;
 
 /// What a call of a member costs beside its node.
-#[derive(Clone, Copy, PartialEq, Eq, Debug)]
+#[derive(Clone, Copy, PartialEq, Eq)]
 pub enum CostKind {
     /// Nothing.
     Plain,
@@ -20,7 +20,7 @@ pub enum CostKind {
 }
 
 /// A method, constructor or field of a library class.
-#[derive(Clone, Copy, Debug)]
+#[derive(Clone, Copy)]
 pub struct MemberRow {
     /// The full name of its class.
     pub class: &'static str,

@@ -2,7 +2,7 @@
 use crate::classes::LibraryClass;
 
 /// A type, or `void`: a base, and how many array brackets stand behind it.
-#[derive(Clone, Copy, PartialEq, Eq, Debug)]
+#[derive(Clone, Copy, PartialEq, Eq)]
 pub struct RowType {
     /// What it is without its array brackets.
     pub base: RowBase,
@@ -11,7 +11,7 @@ pub struct RowType {
 }
 
 /// What a type is without its array brackets.
-#[derive(Clone, Copy, PartialEq, Eq, Debug)]
+#[derive(Clone, Copy, PartialEq, Eq)]
 pub enum RowBase {
     /// `void`, of what returns nothing.
     Void,

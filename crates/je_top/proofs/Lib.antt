@@ -1,2 +1,8 @@
-pub mod OneLemmas
-pub mod OwedLemmas
+pub mod CallLemmas
+pub mod Judged
+pub mod OneVerdict
+pub mod CheckLemmas
+pub mod OneDue
+pub mod ReadingLemmas
+pub mod RunLemmas
+pub mod WordLemmas

@@ -1,8 +1,14 @@
+pub mod Judgement
 pub mod Files
-pub mod Plan
 pub mod Sink
 pub mod InMemory
-pub mod Status
 pub mod Words
-pub mod Texts
 pub mod Outcome
+pub mod Reading
+pub mod Plan
+pub mod Stop
+pub mod Status
+pub mod Texts
+pub mod Runs
+pub mod Due
+pub mod Calls

@@ -1,117 +1,81 @@
-// What a call owes: a status, and the text that is put for it.
+// What a call comes to.
 
-ghost use Rattle.std.specs.Prelude.{⊤, ◌≡◌, ◌≤◌, length, IfOk, IfSome};
-ghost use Rattle.planned_faults.specs.Counts.{Rose, Grew};
-ghost use Rattle.je_top.specs.Files.{file_limit};
-ghost use Rattle.je_top.specs.Outcome.{asked_file, AsksFor, IsOwed, IsOwedForName, IsOwedForBytes};
-ghost use Rattle.planned_faults.specs.Plan.{after_one, FailsNext, IsPlanned};
-ghost use Rattle.je_top.specs.Plan.{after_reads};
+ghost use Rattle.std.specs.Prelude.{◌≡◌};
+ghost use Rattle.je_top.specs.Outcome.{outcome_view, status_of};
 
-use crate::files::{FileFault, Files};
 use crate::status::Status;
-use crate::texts::{name_line, reply_line};
-use crate::words::file_to_run;
-use je_base::Memory;
-use one_run::{Answer, answer_of};
-use std::alloc::Global;
+use host_text::Finding;
+use taming_db::TamingRule;
 
-/// A status, and the text that is put for it.
+/// What a call comes to, by which it has a status and a text.
 #[derive(Drop)]
-pub struct Outcome {
-    pub status: Status,
-    pub text: Vec<u8>,
+pub enum Outcome<'a> {
+    /// The words are outside the grammar.
+    Usage,
+    /// No file of this name is there.
+    Missing {
+        name: &'a str,
+    },
+    /// The file of this name has more than `FILE_LIMIT` bytes.
+    TooLong {
+        name: &'a str,
+    },
+    /// Reading the file of this name failed.
+    Failed {
+        name: &'a str,
+    },
+    /// The taming text has this fault in this table, which count from 1; 0 is the text as a whole.
+    TamingRefused {
+        table: usize,
+        rule: TamingRule,
+    },
+    /// The program keeps all rules.
+    Accepted,
+    /// The program in these files has these findings.
+    Refused {
+        sources: &'a [String],
+        found: Vec<Finding>,
+    },
+    /// `main` replied with this int.
+    Replied {
+        value: i32,
+    },
+    /// `main` threw an exception.
+    Thrown,
+    /// `main` spent its units.
+    Spent,
+    /// The initializers of the class of this name threw an exception.
+    InitThrown {
+        class: Vec<u8>,
+    },
+    /// The initializers of the class of this name were the innermost when the units of the load were spent.
+    InitSpent {
+        class: Vec<u8>,
+    },
+    /// The program in the file of this name, or in the files from it on, is accepted, but isn't one that is built: its
+    /// first class has no `main`, or its core program doesn't fit.
+    NotBuilt {
+        name: &'a str,
+    },
 }
 
-/// What is owed for the words of a command line.
-pub fn outcome_of<F: Files>(
-    alloc: Global,
-    words: &[String],
-    files: &mut F,
-) -> Result<Outcome, Memory>
-    ensures owed { IfOk result (λ o. IsOwed (F.held files.old)
-        (Rose (F.faults files.old) (F.faults files.new))
-        (asked_file words.now) o.status o.text.items) }
-    ensures last { IfOk result (λ o. o.status ≡ Status.ReadFault
-        → asked_file words.now ≡ Some (F.last files.new)) }
-    ensures one_read { F.plan files.new ≡ after_reads (asked_file words.now) (F.plan files.old) }
-    ensures planned { IfOk result (λ o.
-        o.status ≡ Status.ReadFault → IsPlanned (F.plan files.old)) }
-    ensures fails { IfSome (F.plan files.old) (λ p. IfSome (F.held files.old) (λ told.
-        FailsNext p → AsksFor (asked_file words.now) told (λ _. ⊤)
-        → IfOk result (λ o. o.status ≡ Status.ReadFault))) }
-    ensures grew { IfOk result (λ o. IfSome (F.held files.old) (λ _.
-        Grew (F.faults files.old) (F.faults files.new) → o.status ≡ Status.ReadFault)) }
-    ensures held { F.held files.new ≡ F.held files.old }
-    ensures never_falls { F.faults files.old ≤ F.faults files.new }
-    ensures calm { F.is_calm files.old
-        → F.is_calm files.new × (F.faults files.new ≡ F.faults files.old) }
-{
-    match file_to_run(words) {
-        Some(name) => outcome_for_name(alloc, name, files),
-        None => Ok(Outcome {
-            status: Status::Usage,
-            text: Vec::from_slice(
-                alloc,
-                b"usage: joee check TAMING FILE... | run TAMING SCRIPT FILE... | gen N\n",
-            )?,
-        }),
-    }
-}
-
-/// What is owed for the name of a file.
-fn outcome_for_name<F: Files>(alloc: Global, name: &str, files: &mut F) -> Result<Outcome, Memory>
-    ensures owed { IfOk result (λ o. IsOwedForName (F.held files.old)
-        (Rose (F.faults files.old) (F.faults files.new)) name.now o.status o.text.items) }
-    ensures last { IfOk result (λ o. o.status ≡ Status.ReadFault → F.last files.new ≡ name.now) }
-    ensures one_read { F.plan files.new ≡ after_one (F.plan files.old) }
-    ensures planned { IfOk result (λ o.
-        o.status ≡ Status.ReadFault → IsPlanned (F.plan files.old)) }
-    ensures fails { IfSome (F.plan files.old) (λ p. IfSome (F.held files.old) (λ told.
-        FailsNext p → IfSome (told name.now) (λ _.
-        IfOk result (λ o. o.status ≡ Status.ReadFault)))) }
-    ensures grew { IfOk result (λ o. IfSome (F.held files.old) (λ _.
-        Grew (F.faults files.old) (F.faults files.new) → o.status ≡ Status.ReadFault)) }
-    ensures held { F.held files.new ≡ F.held files.old }
-    ensures never_falls { F.faults files.old ≤ F.faults files.new }
-    ensures calm { F.is_calm files.old
-        → F.is_calm files.new × (F.faults files.new ≡ F.faults files.old) }
-{
-    let mut bytes = Vec::new(alloc);
-    match files.read(name, &mut bytes) {
-        Ok(()) => outcome_for_bytes(alloc, name, &bytes),
-        Err(FileFault::NotThere) => Ok(Outcome {
-            status: Status::NotThere,
-            text: name_line(alloc, b"missing ", name)?,
-        }),
-        Err(FileFault::TooLong) => Ok(Outcome {
-            status: Status::TooLong,
-            text: name_line(alloc, b"toolong ", name)?,
-        }),
-        Err(FileFault::Failed) => Ok(Outcome {
-            status: Status::ReadFault,
-            text: name_line(alloc, b"read ", name)?,
-        }),
-        Err(FileFault::Memory) => Err(Memory),
-    }
-}
-
-/// What is owed for the bytes of a file.
-fn outcome_for_bytes(alloc: Global, name: &str, bytes: &[u8]) -> Result<Outcome, Memory>
-    requires { length bytes.now ≤ file_limit }
-    ensures { IfOk result (λ o. IsOwedForBytes name.now bytes.now o.status o.text.items) }
-{
-    match answer_of(alloc, bytes)? {
-        Answer::Reply(value) => Ok(Outcome {
-            status: Status::Ok,
-            text: reply_line(alloc, value)?,
-        }),
-        Answer::Spent => Ok(Outcome {
-            status: Status::Ok,
-            text: Vec::from_slice(alloc, b"spent\n")?,
-        }),
-        Answer::NotBuilt => Ok(Outcome {
-            status: Status::NotBuilt,
-            text: name_line(alloc, b"notbuilt ", name)?,
-        }),
+impl<'a> Outcome<'a> {
+    /// The status that tells of it.
+    pub fn status(&self) -> Status
+        ensures { result ≡ status_of (outcome_view self.now) }
+    {
+        match self {
+            Outcome::Usage => Status::Usage,
+            Outcome::Missing { .. } => Status::NotThere,
+            Outcome::TooLong { .. } => Status::TooLong,
+            Outcome::Failed { .. } => Status::ReadFault,
+            Outcome::TamingRefused { .. } => Status::TamingRefused,
+            Outcome::Refused { .. } => Status::Refused,
+            Outcome::NotBuilt { .. } => Status::NotBuilt,
+            Outcome::InitThrown { .. } | Outcome::InitSpent { .. } => Status::InitFailed,
+            Outcome::Accepted | Outcome::Replied { .. } | Outcome::Thrown | Outcome::Spent => {
+                Status::Ok
+            }
+        }
     }
 }

@@ -29,7 +29,7 @@ pub enum Status {
     NotThere = 10,
     /// A file has more than `FILE_LIMIT` bytes.
     TooLong = 11,
-    /// The file is no source of the subset that is built.
+    /// The program is accepted, but its first class has no `main`, or its core program doesn't fit.
     NotBuilt = 12,
 }
 

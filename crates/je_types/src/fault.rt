@@ -3,7 +3,7 @@
 use je_core::{ClassId, Memory, NameId};
 
 /// Why a program is refused.
-#[derive(Clone, Copy, PartialEq, Eq, Debug)]
+#[derive(Clone, Copy, PartialEq, Eq)]
 pub enum CheckFault {
     /// Want of memory.
     Memory,

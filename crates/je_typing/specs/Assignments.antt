@@ -57,19 +57,20 @@ appends o s t = false
 abbrev pub updates : BinOp → SourceType → SourceType → Bool
 updates o s t = combines (sort_of o) s t || appends o s t
 
-abbrev pub update_node : BinOp → Span → Span → TypedNode → Core → TypedNode
-update_node o at span left operand = record { node = node (Update left.node o (a_core operand) false) (ty_of left.node) span at; type = left.type }
+abbrev pub update_node : List ClassHead → BinOp → Span → Span → TypedNode → Core → TypedNode
+update_node heads o at span left operand =
+    record { node = node (Update left.node o (a_core operand) false) (erased heads left.type) span at; type = left.type }
 
-unfoldable pub update : BinOp → Span → Span → Span → TypedNode → TypedNode → Judged TypedNode
-update o at left_span span left right = do
+unfoldable pub update : List ClassHead → BinOp → Span → Span → Span → TypedNode → TypedNode → Judged TypedNode
+update heads o at left_span span left right = do
   check BadOperand at (updates o left.type right.type)
   place left_span left
-  gives (update_node o at span left right.node)
+  gives (update_node heads o at span left right.node)
 
-unfoldable pub compound : BinaryOp → Span → Span → Span → TypedNode → TypedNode → Judged TypedNode
-compound o at left_span span left right = do
+unfoldable pub compound : List ClassHead → BinaryOp → Span → Span → Span → TypedNode → TypedNode → Judged TypedNode
+compound heads o at left_span span left right = do
   core ← need BadOperand at (core_op o)
-  update core at left_span span left right
+  update heads core at left_span span left right
 
 -- ---- `++` is Add, `--` is Sub; the postfix ones give the old value
 

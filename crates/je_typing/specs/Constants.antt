@@ -48,8 +48,12 @@ uses_of n = uses_in (form_of n)
 
 -- ---- constants in a type (JLS 5.1.2, 5.1.3)
 
+abbrev pub boolean_value : Value → Option Value
+boolean_value (value.Bool b) = Some (value.Bool b)
+boolean_value v = None
+
 abbrev pub value_in_base : Base → Value → Option Value
-value_in_base base.Bool v = Some v
+value_in_base base.Bool v = boolean_value v
 value_in_base b v = converted v b
 
 abbrev pub value_in : Base → Option Value → Option Value

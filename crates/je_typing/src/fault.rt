@@ -4,7 +4,7 @@ use je_base::{Memory, Span};
 use std::alloc::{AllocError, AllocFailed};
 
 /// What is wrong with a class, a statement or an expression. The order is that in which rules are judged at one place.
-#[derive(Clone, Copy, PartialEq, Eq, Debug)]
+#[derive(Clone, Copy, PartialEq, Eq)]
 pub enum TypeRule {
     /// What a class names as above it may not stand there (JLS 8.1.4, 8.1.5, 9.1.3).
     BadSuper,
@@ -89,14 +89,14 @@ pub enum TypeRule {
 }
 
 /// A fault of a type, at the token or part that offends.
-#[derive(Clone, Copy, PartialEq, Eq, Debug)]
+#[derive(Clone, Copy, PartialEq, Eq)]
 pub struct TypeFault {
     pub rule: TypeRule,
     pub span: Span,
 }
 
 /// Why an expression has no type.
-#[derive(Clone, Copy, PartialEq, Eq, Debug)]
+#[derive(Clone, Copy, PartialEq, Eq)]
 pub enum Refusal {
     /// Want of memory.
     Memory,

@@ -1,8 +1,22 @@
-//! `joee run FILE`: runs `main` of the class in a file, and prints its reply.
+//! `joee check TAMING FILE...` judges the program in the files under a taming text, and prints `accepted` or what is
+//! found in it. `joee run FILE` runs `main` of the class in a file, and prints its reply.
 //!
 //! The call `je_top::joee` does the work, and has the contract. This program hands it the system's files, standard
 //! output and the words of the command line, and ends with the number of the status.
 #![tactic(auto)]
+
+#[cfg(test)]
+mod calls;
+#[cfg(test)]
+mod checking;
+#[cfg(test)]
+mod commands;
+#[cfg(test)]
+mod flowing;
+#[cfg(test)]
+mod programs;
+#[cfg(test)]
+mod running;
 
 use je_base::Memory;
 use je_top::{RealFiles, RealSink, Status, joee};

@@ -17,7 +17,7 @@ text_there names word e = by (number_of names word) refl e
     by None r h = absurd (cc)
     by (Some id) r h = number-text names word id r
 
-one_text : (names : List (List ℕ)) → AreNumbered names library_words → (x y : List ℕ) → Contains library_words x → Contains library_words y →
+pub one_text : (names : List (List ℕ)) → AreNumbered names library_words → (x y : List ℕ) → Contains library_words x → Contains library_words y →
     number_in names x ≡ number_in names y → x ≡ y
 one_text names are x y cx cy e =
     let tx = text_there names x (are x cx) in

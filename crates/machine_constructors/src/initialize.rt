@@ -61,7 +61,7 @@ pub fn initialized(
     ensures begun { context.new.begun ≡ context.old.begun }
 {
     let all = initializers(program, class);
-    match next_initializer(all, at) {
+    match next_initializer(all, false, at) {
         Some(place) => enter_initializer(context, class, &all[place], place + 1, body, next),
         None => parts_from(body, next, &mut context.frames),
     }

@@ -1,7 +1,7 @@
 // What the newest frame does with what comes.
 
 ghost use Rattle.std.specs.Prelude.{◌≡◌, ◌≤◌, ◌+◌, IfOk, length};
-ghost use Rattle.machine_parts.specs.way.Clauses.{BeginsValue, GoesAheadOver, RunsAheadOver};
+ghost use Rattle.machine_parts.specs.way.Clauses.{BeginsValue, RunsAheadFrom};
 ghost use Rattle.je_core.specs.View.{view};
 ghost use Rattle.je_java.specs.Steps.{bind, binary as the_binary, write_field as the_write_field};
 ghost use Rattle.machine_parts.specs.Ways.{frame_ways, height, gives};
@@ -21,8 +21,10 @@ use machine_parts::frame::{Context, Control, End, Frame};
 use machine_parts::kind::{cast, is_instance};
 use machine_parts::make::throw_value;
 use machine_parts::stack::Stack;
+use machine_parts::starts::Starts;
 use machine_parts::value::{and, binary, choose, convert, or, unary};
 use machine_parts::variable::read_static;
+use machine_starts::initialize::starts_on;
 use machine_statements::catch::{catch, finish, go_on};
 use machine_statements::stmt::{begin_leave, begin_nothing, parts_from, test};
 use machine_statements::switch::{cases_from, switch};
@@ -68,12 +70,14 @@ fn begin_value(
 #[tactic(auto)]
 pub fn give(
     context: &mut Context,
+    starts: &mut Starts,
     heap: &mut Heap,
     program: &Program,
     frame: Frame,
     value: Value,
 ) -> Result<Control, Memory>
-    ensures goes { IfOk result (GoesAheadOver program.now context.old heap.old context.new heap.new
+    ensures goes { IfOk result (RunsAheadFrom program.now
+        context.old heap.old starts.old context.new heap.new starts.new
         (λ p m k. (frame_ways p m frame k).give value)) }
     ensures short { IfOk result (λ c. height context.new + gives c ≤ height context.old + 1) }
     ensures begun { context.new.begun ≡ context.old.begun }
@@ -172,6 +176,10 @@ pub fn give(
             context.env = caller;
             initialized(context, heap, program, class, at, body, next)
         }
+        Frame::Starting { caller, start } => {
+            context.env = caller;
+            starts_on(context, starts, heap, program, start)
+        }
         Frame::Parts { .. } | Frame::Body { .. } | Frame::Labelled { .. } => {
             Ok(Control::Give(value))
         }
@@ -197,11 +205,13 @@ pub fn give(
 #[tactic(auto)]
 pub fn next(
     context: &mut Context,
+    starts: &mut Starts,
     heap: &mut Heap,
     program: &Program,
     frame: Frame,
 ) -> Result<Control, Memory>
-    ensures goes { IfOk result (RunsAheadOver program.now context.old heap.old context.new heap.new
+    ensures goes { IfOk result (RunsAheadFrom program.now
+        context.old heap.old starts.old context.new heap.new starts.new
         (λ p m k. (frame_ways p m frame k).next tt)) }
     ensures short { IfOk result (λ c. height context.new + gives c ≤ height context.old + 1) }
     ensures begun { context.new.begun ≡ context.old.begun }
@@ -243,6 +253,10 @@ pub fn next(
             context.env = caller;
             initialized(context, heap, program, class, at, body, next)
         }
+        Frame::Starting { caller, start } => {
+            context.env = caller;
+            starts_on(context, starts, heap, program, start)
+        }
         _ => Ok(Control::Next),
     }
 }
@@ -251,12 +265,14 @@ pub fn next(
 #[tactic(auto)]
 pub fn leave(
     context: &mut Context,
+    starts: &mut Starts,
     heap: &mut Heap,
     program: &Program,
     frame: Frame,
     value: Value,
 ) -> Result<Control, Memory>
-    ensures goes { IfOk result (GoesAheadOver program.now context.old heap.old context.new heap.new
+    ensures goes { IfOk result (RunsAheadFrom program.now
+        context.old heap.old starts.old context.new heap.new starts.new
         (λ p m k. (frame_ways p m frame k).out.leave value)) }
     ensures short { IfOk result (λ c. height context.new + gives c ≤ height context.old + 1) }
     ensures begun { context.new.begun ≡ context.old.begun }
@@ -284,6 +300,10 @@ pub fn leave(
             context.env = caller;
             initialized(context, heap, program, class, at, body, next)
         }
+        Frame::Starting { caller, start } => {
+            context.env = caller;
+            starts_on(context, starts, heap, program, start)
+        }
         Frame::Try { node } => finish(&node.form, End::Leave(value), &mut context.frames),
         Frame::Finally { node } => finish(&node.form, End::Leave(value), &mut context.frames),
         _ => Ok(Control::Leave(value)),
@@ -294,13 +314,14 @@ pub fn leave(
 #[tactic(auto)]
 pub fn throw(
     context: &mut Context,
+    starts: &Starts,
     heap: &Heap,
     program: &Program,
     frame: Frame,
     exception: ObjId,
 ) -> Result<Control, Memory>
-    ensures goes { IfOk result (GoesAheadOver program.now
-        context.old heap.now context.new heap.now
+    ensures goes { IfOk result (RunsAheadFrom program.now
+        context.old heap.now starts.now context.new heap.now starts.now
         (λ p m k. (frame_ways p m frame k).out.throw exception)) }
     ensures short { IfOk result (λ c. height context.new + gives c ≤ height context.old + 1) }
     ensures begun { context.new.begun ≡ context.old.begun }
@@ -321,6 +342,11 @@ pub fn throw(
         Frame::Initializer { caller, .. } => {
             context.env = caller;
             Ok(Control::Throw(exception))
+        }
+        Frame::Starting { caller, start } => {
+            context.env = caller;
+            let class = start.class;
+            Ok(Control::ThrownInStart { class, exception })
         }
         Frame::Try { node } => catch(context, heap, program, node, exception),
         Frame::Finally { node } => finish(&node.form, End::Throw(exception), &mut context.frames),

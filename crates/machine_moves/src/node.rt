@@ -7,19 +7,22 @@ ghost use Rattle.machine_parts.specs.way.Clauses.{RunsToValue, RunsToEnd, Falls}
 use je_core::{ClassId, Expr, Memory, Program, Stmt};
 use je_heap::Heap;
 use machine_constructors::build::begin_body;
-use machine_forms::expr::begin_expr;
 use machine_parts::frame::{Context, Control};
+use machine_parts::starts::Starts;
+use machine_starts::node::begin_node;
 use machine_statements::stmt::begin_stmt;
 use std::rc::Rc;
 
-/// Takes the unit of an expression, and begins it. It starts no class: all have been started.
+/// Takes the unit of an expression, and begins it, with the class that it starts.
 pub fn eval(
     context: &mut Context,
+    starts: &mut Starts,
     heap: &mut Heap,
     program: &Program,
     node: Rc<Expr>,
 ) -> Result<Control, Memory>
-    ensures goes { IfOk result (RunsToValue program.now context.old heap.old context.new heap.new
+    ensures goes { IfOk result (RunsToValue program.now
+        context.old heap.old starts.old context.new heap.new starts.new
         (λ m. m.eval (view node.value))) }
     ensures falls { IfOk result (Falls context.old context.new) }
     ensures begun { context.new.begun ≤ context.old.begun + 1 }
@@ -29,7 +32,7 @@ pub fn eval(
     }
     context.units -= 1;
     context.begun += 1;
-    begin_expr(context, heap, program, node)
+    begin_node(context, starts, heap, program, node)
 }
 
 /// Takes the unit of a statement, and begins it.

@@ -1,4 +1,5 @@
 pub mod Telling
+pub mod Starts
 pub mod Ways
 pub mod Outermost
 pub mod way

@@ -6,11 +6,11 @@ use Rattle.je_core.specs.Defaults.{default_of}
 use Rattle.je_java.specs.Steps.{Done, out_of, with_own}
 use Rattle.je_java.specs.Meaning.{ends, nobody, reply}
 use Rattle.machine_parts.specs.declared.frame.Control.{Control}
-use Rattle.machine_parts.specs.declared.frame.Control.TheVariants.{Done as DoneHere, Thrown as ThrownHere, Spent as SpentHere, Wrong as WrongHere, Memory}
+use Rattle.machine_parts.specs.declared.frame.Control.TheVariants.{Done as DoneHere, Thrown as ThrownHere, ThrownInStart as ThrownInStartHere, Spent as SpentHere, Wrong as WrongHere, Memory}
 use Rattle.machine_parts.specs.declared.frame.Reply.{Reply}
 use Rattle.machine_parts.specs.declared.frame.Reply.TheVariants.{Result, Built}
 use Rattle.machine_parts.specs.declared.frame.Next.{Next}
-use Rattle.machine_parts.specs.declared.frame.Next.TheVariants.{More, Done as DoneNext, Thrown as ThrownNext, Spent as SpentNext}
+use Rattle.machine_parts.specs.declared.frame.Next.TheVariants.{More, Done as DoneNext, Thrown as ThrownNext, ThrownInStart as ThrownInStartNext, Spent as SpentNext}
 use Rattle.machine_parts.specs.Ways.{Ways}
 
 -- what the first body's value is for the caller
@@ -35,6 +35,7 @@ outermost r = record {
 abbrev pub answer_at : Control → Option Next
 answer_at (DoneHere reply) = Some (DoneNext reply)
 answer_at (ThrownHere o) = Some (ThrownNext o)
+answer_at (ThrownInStartHere class o) = Some (ThrownInStartNext class o)
 answer_at SpentHere = Some SpentNext
 answer_at WrongHere = None
 answer_at Memory = None

@@ -9,21 +9,25 @@ use Rattle.je_core.specs.Core.{CoreForm, CoreStmt, CoreStmtForm, Switch, Try, Co
 use Rattle.je_core.specs.View.{view, form_view, stmt_view, stmt_form_view}
 use Rattle.je_heap.specs.Contents.{Contents}
 use Rattle.je_core.specs.declared.value.Value.TheVariants.{Bool as Truth, Null}
-use Rattle.je_java.specs.Steps.{State, Outside, Own, Done as DoneRun, Thrown, Spent, Wrong, Run, Exits, Computation, Nothing, ret, ◌>>=◌, ◌>>◌, leave, takes, is_label, landing, breaking, after_all, throw_value, out_of, with_own, put_local, binary, unary, convert, is_instance, cast, branch, read_field, write_field, read_static, write_static}
+use Rattle.je_java.specs.Steps.{State, Outside, Own, Done as DoneRun, Thrown, ThrownInStart, Spent, Wrong, Run, Exits, Computation, Nothing, ret, ◌>>=◌, ◌>>◌, leave, takes, is_label, landing, breaking, after_all, throw_value, out_of, out_of_start, with_own, put_local, binary, unary, convert, is_instance, cast, branch, read_field, write_field, read_static, write_static}
 use Rattle.je_java.specs.Constructors.{parts_of, called_constructor, is_of}
 use Rattle.je_java.specs.Arrays.{length_of, read_element, write_element}
 use Rattle.je_java.specs.Texts.{concatenated}
-use Rattle.je_java.specs.Meaning.{Meanings, block, tested, further, labels_of, caught, parts_in, fallen_through, switched, update_object, update_at, update_by, set_variable, call_from, start_call, to_string, constructor_from, initialized, completed, call_by, ends, nobody}
+use Rattle.je_java.specs.Meaning.{Meanings, block, tested, further, labels_of, caught, parts_in, fallen_through, switched, update_object, update_at, update_by, set_variable, call_from, start_call, to_string, constructor_from, initialized, completed, eval_form, call_by, ends, nobody}
 use Rattle.machine_parts.specs.Telling.{told_by}
+use Rattle.machine_parts.specs.Starts.{initialize_from, load_from}
 use Rattle.machine_parts.specs.declared.frame.Frame.{Frame}
-use Rattle.machine_parts.specs.declared.frame.Frame.TheVariants.{ReadField, SetLocal, SetObject, SetField, ReadStatic, SetBefore, SetStatic, ReadArray, ReadElement, Length as LengthFrame, SetArray, SetIndex, SetElement, UpdateObject, UpdateIndex, Update as UpdateFrame, Operand, Converted, Cast as CastFrame, InstanceOf as InstanceFrame, Left, Right, And as AndFrame, Or as OrFrame, Choose as ChooseFrame, Test, Body, Steps, Labelled as LabelledFrame, Switch as SwitchFrame, Cases, Try as TryFrame, Finally, Finishing, Thrown as ThrownFrame, Receiver, Args, Called, ConstructorArgs, Constructor as ConstructorFrame, Initializer as InitializerFrame, Parts, Ignored, Returned, ConcatLeft, ConcatRight, Telling}
+use Rattle.machine_parts.specs.declared.frame.Frame.TheVariants.{ReadField, SetLocal, SetObject, SetField, ReadStatic, SetBefore, SetStatic, ReadArray, ReadElement, Length as LengthFrame, SetArray, SetIndex, SetElement, UpdateObject, UpdateIndex, Update as UpdateFrame, Operand, Converted, Cast as CastFrame, InstanceOf as InstanceFrame, Left, Right, And as AndFrame, Or as OrFrame, Choose as ChooseFrame, Test, Body, Steps, Labelled as LabelledFrame, Switch as SwitchFrame, Cases, Try as TryFrame, Finally, Finishing, Thrown as ThrownFrame, Receiver, Args, Called, ConstructorArgs, Constructor as ConstructorFrame, Initializer as InitializerFrame, Starting, Parts, Ignored, Returned, ConcatLeft, ConcatRight, Telling}
 use Rattle.machine_parts.specs.declared.frame.Env.{Env}
 use Rattle.machine_parts.specs.declared.frame.Rest.{Rest}
+use Rattle.machine_parts.specs.declared.frame.Then.{Then}
+use Rattle.machine_parts.specs.declared.frame.Then.TheVariants.{Node, Classes}
+use Rattle.machine_parts.specs.declared.frame.Start.{Start as StartRest}
 use Rattle.machine_parts.specs.declared.frame.End.{End}
 use Rattle.machine_parts.specs.declared.frame.End.TheVariants.{Next as NextEnd, Leave as LeaveEnd, Throw as ThrowEnd, Jump as JumpEnd}
 use Rattle.machine_parts.specs.declared.frame.Context.{Context}
 use Rattle.machine_parts.specs.declared.frame.Control.{Control}
-use Rattle.machine_parts.specs.declared.frame.Control.TheVariants.{Start, Eval, Exec, Build, Give, Next, Leave, Throw, Jump, Done as DoneHere, Thrown as ThrownHere, Spent as SpentHere, Wrong as WrongHere, Memory}
+use Rattle.machine_parts.specs.declared.frame.Control.TheVariants.{Start, Load, Eval, Exec, Build, Give, Next, Leave, Throw, Jump, Done as DoneHere, Thrown as ThrownHere, ThrownInStart as ThrownInStartHere, Spent as SpentHere, Wrong as WrongHere, Memory}
 
 -- where a run goes on: with a value, after a statement, and the ways out
 pub record Ways : Type 0 where
@@ -125,6 +129,15 @@ ended_by (LeaveEnd value) k = k.out.leave value
 ended_by (ThrowEnd exception) k = k.out.throw exception
 ended_by (JumpEnd again label) k = k.out.jump again label
 
+-- how a run goes on behind the start of classes
+abbrev pub goes_behind : CoreProgram → Meanings → Then → Ways → Run
+goes_behind program m (Node e) k = valued (eval_form program m e.value.ty (form_view e.value.form)) k
+goes_behind program m (Classes left) k = load_from program m left.next left.count
+
+-- how the start of classes goes on
+abbrev pub starts_on : CoreProgram → Meanings → StartRest → Ways → Run
+starts_on program m start k = initialize_from program m start.class start.at start.outer start.classes (goes_behind program m start.then k)
+
 -- what a frame does with what comes, and with the ways on behind it
 abbrev pub frame_ways : CoreProgram → Meanings → Frame → Ways → Ways
 frame_ways program m (ReadField class field) k = giving (λ o. read_field program class field o) k
@@ -183,6 +196,8 @@ frame_ways program m (ConstructorArgs class body call next done) k = doing (λ v
 frame_ways program m (ConstructorFrame caller rest) k = followed (own_of caller) (goes_on program m rest) k
 frame_ways program m (InitializerFrame caller class at body next) k =
     followed (own_of caller) (initialized program m class (stmt_form_view body.value.form) at next) k
+frame_ways program m (Starting caller start) k =
+    called (own_of caller) Null (λ dropped. starts_on program m start k) (record k { out = out_of_start start.class })
 frame_ways program m (Parts node next) k = going (block m (drop next (parts_of (stmt_form_view node.value.form)))) k
 frame_ways program m Ignored k = doing (λ v. ret tt) k
 frame_ways program m Returned k = doing (λ v. leave v) k
@@ -201,6 +216,7 @@ waits program m k (f ∷ fs) = frame_ways program m f (waits program m k fs)
 abbrev pub resume : CoreProgram → Meanings → Ways → Control → List Frame → Run
 resume program m k (Start call) fs =
     λ s. call_by program m call.receiver call.class call.method call.args DoneRun ends (with_own s nobody)
+resume program m k (Load left) fs = load_from program m left.next left.count
 resume program m k (Eval e) fs = valued (m.eval (view e.value)) (waits program m k fs)
 resume program m k (Exec s) fs = ended (m.exec (stmt_view s.value)) (waits program m k fs)
 resume program m k (Build class body) fs = ended (m.build class (stmt_view body.value)) (waits program m k fs)
@@ -211,6 +227,7 @@ resume program m k (Throw o) fs = (waits program m k fs).out.throw o
 resume program m k (Jump again label) fs = (waits program m k fs).out.jump again label
 resume program m k (DoneHere reply) fs = DoneRun reply
 resume program m k (ThrownHere o) fs = Thrown o
+resume program m k (ThrownInStartHere class o) fs = ThrownInStart class o
 resume program m k SpentHere fs = Spent
 resume program m k WrongHere fs = λ s. Wrong
 resume program m k Memory fs = λ s. Wrong
@@ -231,8 +248,9 @@ state context heap outside = state_of context.units context.begun heap outside (
 abbrev pub height : Context → ℕ
 height context = 2 * context.units + length context.frames
 
--- 1 where a frame is to take what there is
+-- 1 where a frame is to take what there is, and 2 where a load is to begin
 abbrev pub gives : Control → ℕ
+gives (Load left) = 2
 gives (Give v) = 1
 gives Next = 1
 gives (Leave v) = 1

@@ -1,8 +1,9 @@
 // What waits for a part of a node, and what comes next.
 
-ghost use Rattle.std.specs.Prelude.{◌≤◌, ◌+◌};
+ghost use Rattle.std.specs.Prelude.{◌≤◌, ◌<◌, ◌+◌};
 
 use crate::stack::Stack;
+use crate::starts::Path;
 use je_base::{NameId, Units};
 use je_core::{BinOp, ClassId, Expr, ObjId, Slots, Stmt, Ty, UnOp, Value};
 use je_java::Receiver;
@@ -14,6 +15,8 @@ use std::rc::Rc;
 pub enum Control {
     /// Begin a call from outside.
     Start(Call),
+    /// Begin a load, with those classes to start.
+    Load(ClassesLeft),
     /// Begin an expression.
     Eval(Rc<Expr>),
     /// Begin a statement.
@@ -34,6 +37,8 @@ pub enum Control {
     Done(Option<Value>),
     /// The call has thrown.
     Thrown(ObjId),
+    /// The initializers of a class have thrown.
+    ThrownInStart { class: ClassId, exception: ObjId },
     /// The next cost is greater than the units left.
     Spent,
     /// What a program that fits its types never comes to.
@@ -51,6 +56,8 @@ pub enum Next {
     Done(Option<Value>),
     /// It has thrown the exception of that number.
     Thrown(ObjId),
+    /// The initializers of a class have thrown the exception of that number.
+    ThrownInStart { class: ClassId, exception: ObjId },
     /// The next cost is greater than the units left.
     Spent,
 }
@@ -129,6 +136,36 @@ pub struct Rest {
     pub is_initialized: bool,
     /// The place of the statement that comes then.
     pub next: usize,
+}
+
+/// The classes that a load is still to start: so many, from a number on.
+#[derive(Clone, Copy)]
+pub struct ClassesLeft {
+    pub next: u32,
+    pub count: u32,
+    ghost numbered: { next + count < 4294967296 },
+}
+
+/// What comes behind the start of classes.
+#[derive(Drop)]
+pub enum Then {
+    /// The node that started them goes on, behind its unit.
+    Node(Rc<Expr>),
+    /// A load goes on, with those classes to start.
+    Classes(ClassesLeft),
+}
+
+/// How the start of classes goes on behind an initializer of a class itself.
+#[derive(Drop)]
+pub struct Start {
+    pub class: ClassId,
+    /// The place from which on its other initializers run.
+    pub at: usize,
+    /// The class whose initializers are the innermost behind them.
+    pub outer: Option<ClassId>,
+    /// The classes whose initializers run then.
+    pub classes: Path,
+    pub then: Then,
 }
 
 /// What waits for a part of a node.
@@ -334,6 +371,11 @@ pub enum Frame {
         at: usize,
         body: Rc<Stmt>,
         next: usize,
+    },
+    /// An initializer of a class itself runs: what was there before, and how the start goes on.
+    Starting {
+        caller: Env,
+        start: Start,
     },
     /// The statement before `next` of a block runs.
     Parts {

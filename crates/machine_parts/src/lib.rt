@@ -12,6 +12,7 @@ pub mod kind;
 pub mod make;
 pub mod reply;
 pub mod stack;
+pub mod starts;
 pub mod text;
 pub mod value;
 pub mod variable;

@@ -59,7 +59,8 @@ pub fn binary(
 
 /// An operator on one value.
 pub fn unary(op: UnOp, operand: Value) -> Control
-    ensures { IsValue result (λ p m. the_unary op operand) }
+    ensures goes { IsValue result (λ p m. the_unary op operand) }
+    ensures short { gives result ≤ 1 }
 {
     match try_unary(op, operand) {
         Some(value) => Control::Give(value),
@@ -69,7 +70,8 @@ pub fn unary(op: UnOp, operand: Value) -> Control
 
 /// A number as one of another type; an array type has none.
 pub fn convert(ty: Ty, operand: Value) -> Control
-    ensures { IsValue result (λ p m. the_convert ty operand) }
+    ensures goes { IsValue result (λ p m. the_convert ty operand) }
+    ensures short { gives result ≤ 1 }
 {
     if ty.dims > 0 {
         return Control::Wrong;
@@ -82,8 +84,9 @@ pub fn convert(ty: Ty, operand: Value) -> Control
 
 /// `&&`, once its left operand has a value.
 pub fn and(held: Value, right: Rc<Expr>) -> Control
-    ensures { IsValue result
+    ensures goes { IsValue result
         (λ p m. the_branch held (m.eval (view right.value)) (ret (Truth false))) }
+    ensures short { gives result ≤ 1 }
 {
     match held {
         Value::Bool(true) => Control::Eval(right),
@@ -94,8 +97,9 @@ pub fn and(held: Value, right: Rc<Expr>) -> Control
 
 /// `||`, once its left operand has a value.
 pub fn or(held: Value, right: Rc<Expr>) -> Control
-    ensures { IsValue result
+    ensures goes { IsValue result
         (λ p m. the_branch held (ret (Truth true)) (m.eval (view right.value))) }
+    ensures short { gives result ≤ 1 }
 {
     match held {
         Value::Bool(true) => Control::Give(Value::Bool(true)),
@@ -106,8 +110,9 @@ pub fn or(held: Value, right: Rc<Expr>) -> Control
 
 /// The operand of `condition ? yes : no` that the condition's value chooses.
 pub fn choose(held: Value, yes: Rc<Expr>, no: Rc<Expr>) -> Control
-    ensures { IsValue result
+    ensures goes { IsValue result
         (λ p m. the_branch held (m.eval (view yes.value)) (m.eval (view no.value))) }
+    ensures short { gives result ≤ 1 }
 {
     match held {
         Value::Bool(true) => Control::Eval(yes),
@@ -118,7 +123,8 @@ pub fn choose(held: Value, yes: Rc<Expr>, no: Rc<Expr>) -> Control
 
 /// A constant, which is no reference.
 pub fn constant(value: Value) -> Control
-    ensures { IsValue result (λ p m. the_constant value) }
+    ensures goes { IsValue result (λ p m. the_constant value) }
+    ensures short { gives result ≤ 1 }
 {
     match value {
         Value::Ref(_) => Control::Wrong,

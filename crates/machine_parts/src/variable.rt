@@ -27,8 +27,8 @@ fn static_count(fields: &[Field]) -> u64
     count
 }
 
-// How many static fields some classes have.
-fn statics_of(classes: &[Class]) -> u128
+/// How many static fields some classes have.
+pub fn statics_of(classes: &[Class]) -> u128
     ensures value { result ≡ the_statics_of (map class_view classes.now) }
     ensures bound { result < 2 ^ 127 }
 {
@@ -76,8 +76,8 @@ fn is_same_text(a: &Units, b: &Units) -> bool
     a.as_slice() == b.as_slice()
 }
 
-// The place of some units among texts.
-fn place_of(texts: &[Units], units: &Units) -> Option<usize>
+/// The place of some units among texts, of several the first; None exactly where they are none of them.
+pub fn place_of(texts: &[Units], units: &Units) -> Option<usize>
     ensures { result ≡ the_place_of texts.now units.now }
 {
     for at in 0..texts.len() {

@@ -107,6 +107,7 @@ pub fn jump(
         }
         Frame::Called { .. } | Frame::Telling { .. } => Ok(Control::Wrong),
         Frame::Constructor { .. } | Frame::Initializer { .. } => Ok(Control::Wrong),
+        Frame::Starting { .. } => Ok(Control::Wrong),
         _ => Ok(Control::Jump { again, label }),
     }
 }

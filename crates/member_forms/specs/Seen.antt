@@ -12,10 +12,10 @@ use Rattle.member_forms.specs.declared.done.MembersDone.{MembersDone}
 use Rattle.member_forms.specs.declared.walk.ClassWalk.{ClassWalk}
 
 abbrev pub program_of : ClassWalk → Program
-program_of w = program_in w.bodies
+program_of w = program_in w.bodies.now
 
 abbrev pub known_of : ClassWalk → Known
-known_of w = known_in w.bodies
+known_of w = known_in w.bodies.now
 
 abbrev pub round_of : ClassWalk → List Frame
 round_of w = map frame_seen w.round.now

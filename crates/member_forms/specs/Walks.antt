@@ -13,7 +13,7 @@ use Rattle.je_scopes.specs.Sites.{Context}
 use Rattle.je_scopes.specs.SourceTypes.{SourceType}
 use Rattle.declarations.specs.Declarations.{DeclaredField, DeclaredMethod}
 use Rattle.je_typing.specs.Conversions.{assigned}
-use Rattle.je_typing.specs.Judged.{Judged, gives, ◌>>=◌}
+use Rattle.je_typing.specs.Judged.{Judged, gives, ◌>>=◌, ◌>>◌}
 use Rattle.je_typing.specs.Typed.{TypedNode}
 use Rattle.name_typing.specs.Program.{Constant, Initializer}
 use Rattle.call_typing.specs.Constructors.{constructor_for}
@@ -55,10 +55,14 @@ abbrev pub field_code : ClassWalk → DeclaredField → ℕ → Identifier → E
     Option Constant → MembersDone
 field_code w = words.field_code (program_of w) (known_of w) w.class.0 (round_of w)
 
+abbrev pub inner_static : ClassWalk → DeclaredField → Identifier → Option Constant → Judged (Unit {0})
+inner_static w = words.inner_static (program_of w) (known_of w) w.class.0 (round_of w)
+
 -- a field with an initializer, which came to a value
 abbrev pub initialized_by : ClassWalk → ℕ → Identifier → Expression → DeclaredField → TypedNode → Judged MembersDone
 initialized_by w at id e f from = do
   n ← assigned (program_of w).heads f.ty (span_of e) from
+  inner_static w f id (variable_constant f.is_final f.ty from.node)
   gives (field_code w f at id e from n f.is_static (variable_constant f.is_final f.ty from.node))
 
 -- ---- methods, constructors and initializers

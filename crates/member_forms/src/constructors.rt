@@ -56,7 +56,8 @@ pub fn constructor_call(
     ensures err { IfErr result (IsFault (the_constructor_call (program_of walk.entry) is_super
         (place_seen place.entry) word (map seen args.items))) }
 {
-    let calls = walk.bodies.calls;
+    let bodies = walk.bodies;
+    let calls = bodies.calls;
     if is_super {
         superclass_constructor_call(calls, place, word, word, args)
     } else {

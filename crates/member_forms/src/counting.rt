@@ -17,7 +17,8 @@ pub fn declared_at<'a>(walk: ClassWalk<'a>, at: usize) -> Option<&'a MethodDecl>
     ensures { option_map (λ m. method_shown m.now) result ≡
         slice_get (methods_in (slice_get (program_of walk.entry).classes walk.entry.class.0)) at }
 {
-    let declared = walk.bodies.calls.program.classes.class(walk.class)?;
+    let bodies = walk.bodies;
+    let declared = bodies.calls.program.classes.class(walk.class)?;
     declared.methods.get(at)
 }
 

@@ -12,7 +12,7 @@ use je_typing::{Refusal, TypeFault, TypeRule};
 use std::alloc::Global;
 
 /// A constructor, by its place in its class, that calls another one of the class by a word `this`.
-#[derive(Clone, Copy, PartialEq, Eq, Debug)]
+#[derive(Clone, Copy, PartialEq, Eq)]
 pub struct OwnCall {
     pub place: usize,
     pub word: Span,

@@ -17,7 +17,7 @@ ghost use Rattle.body_places.specs.Tables.{constant_seen};
 ghost use Rattle.body_walks.specs.Seen.{met_seen};
 ghost use Rattle.member_forms.specs.Seen.{members_seen, program_of};
 ghost use Rattle.member_forms.specs.Walks.{constant_node as the_constant_node, field_initializer as the_field_initializer, field_node as the_field_node, field_scope as the_field_scope, initialized_by};
-ghost use Rattle.member_forms.specs.way.Fields.{code_by, kept_constant as the_kept_constant, static_node as the_static_node};
+ghost use Rattle.member_forms.specs.way.Fields.{code_by, kept_constant as the_kept_constant, static_kept as the_static_kept, static_node as the_static_node};
 
 use crate::counting::numbered;
 use crate::done::{MembersDone, nothing};
@@ -28,10 +28,11 @@ use body_walks::{Met, add_met};
 use conversion_steps::assigned;
 use declarations::FieldDecl;
 use folded_nodes::uses_of;
+use header_steps::is_inner;
 use je_ast::{Expr, Identifier};
 use je_base::{Memory, Span};
 use je_core::{Expr as Node, Initializer, Mark, make_assign, make_field, make_static};
-use je_typing::Refusal;
+use je_typing::{Refusal, TypeRule, check};
 use name_steps::constant_or;
 use source_subtypes::{copied, erased};
 use statement_forms::{performed, variable_constant};
@@ -42,12 +43,13 @@ use typed_nodes::TypedExpr;
 
 // The type of a field, at a place of the text.
 fn field_mark(walk: ClassWalk, field: &FieldDecl, span: Span) -> Mark
-    ensures ty { result.ty ≡ the_erased (heads_of walk.entry.bodies.calls.program.heads.now)
+    ensures ty { result.ty ≡ the_erased (heads_of walk.entry.bodies.now.calls.program.heads.now)
         (shown field.now.ty) }
     ensures span { result.span ≡ span }
     ensures at { result.at ≡ span }
 {
-    let ty = erased(walk.bodies.calls.program.heads, &field.ty);
+    let bodies = walk.bodies;
+    let ty = erased(bodies.calls.program.heads, &field.ty);
     Mark { ty, span, at: span }
 }
 
@@ -216,6 +218,26 @@ fn field_code<'a>(
     }
 }
 
+// Nothing where a static field of an inner class is kept as a constant, else BadStatic at its name.
+fn static_kept(
+    walk: ClassWalk,
+    field: &FieldDecl,
+    name: Identifier,
+    kept: &Option<Node>,
+) -> Result<(), Refusal>
+    ensures ok { IfOk result (λ done. the_static_kept walk.entry (field_shown field.now) name
+        (option_map view kept.now) ≡ gives done) }
+    ensures err { IfErr result (IsFault (the_static_kept walk.entry (field_shown field.now) name
+        (option_map view kept.now))) }
+{
+    let bodies = walk.bodies;
+    let program = bodies.calls.program;
+    let is_wrong = field.is_static
+        && kept.is_none()
+        && is_inner(program.source.sites, program.heads, walk.class);
+    check(TypeRule::BadStatic, name.span, !is_wrong)
+}
+
 /// The field at a place whose initializer came to a value.
 #[tactic(auto, using(je_typing::proofs::Walks::walks))]
 pub fn initialized<'a>(
@@ -233,8 +255,10 @@ pub fn initialized<'a>(
 {
     let span = span(expr);
     let kept = kept_constant(walk, field, at, span, &from.node)?;
-    let heads = walk.bodies.calls.program.heads;
+    let bodies = walk.bodies;
+    let heads = bodies.calls.program.heads;
     let node = assigned(alloc(walk), heads, &field.ty, span, from)?;
+    static_kept(walk, field, name, &kept)?;
     let done = field_code(walk, field, at, name, expr, node, kept)?;
     Ok(done)
 }

@@ -50,7 +50,8 @@ fn thrown_classes(walk: ClassWalk, types: &[SrcTy]) -> Result<Vec<ClassId>, Memo
 {
     let mut classes = Vec::new(alloc(walk));
     for ty in types {
-        let thrown = erased(walk.bodies.calls.program.heads, ty);
+        let bodies = walk.bodies;
+        let thrown = erased(bodies.calls.program.heads, ty);
         add_class(&mut classes, thrown.base)?;
     }
     Ok(classes)
@@ -78,7 +79,8 @@ pub fn code_of(
     ensures { IfOk result (λ m. method_view m ≡ the_code_of walk.entry name span
         (method_shown declared.now) locals.items (option_map stmt_view body)) }
 {
-    let heads = walk.bodies.calls.program.heads;
+    let bodies = walk.bodies;
+    let heads = bodies.calls.program.heads;
     let params = all_erased(alloc(walk), heads, &declared.parameters)?;
     let throws = thrown_classes(walk, &declared.throws)?;
     let body = kept(alloc(walk), body)?;

@@ -58,7 +58,7 @@ fn add_parameter(
     ensures scope { OnOk result (scope_seen scope.new ≡ scope_behind (scope_seen scope.old)
         (progress_seen progress.old) (formal_view formal.now) (shown ty.now)) }
     ensures progress { OnOk result (progress_seen progress.new ≡ progress_behind
-        (heads_of walk.entry.bodies.calls.program.heads.now) (progress_seen progress.old)
+        (heads_of walk.entry.bodies.now.calls.program.heads.now) (progress_seen progress.old)
         (formal_view formal.now) (shown ty.now)) }
     ensures err { IfErr result (IsFault (the_new_name (scope_seen scope.old) formal.now.name)) }
 {
@@ -67,7 +67,8 @@ fn add_parameter(
     new_name(scope, name)?;
     let number = next_number(progress)?;
     let local = local_of(alloc(walk), name.name, ty, is_final, number, None)?;
-    let heads = walk.bodies.calls.program.heads;
+    let bodies = walk.bodies;
+    let heads = bodies.calls.program.heads;
     add_number(heads, progress, name.name, ty, is_final, name.span)?;
     scope.add_local(is_final, local)?;
     Ok(())

@@ -37,7 +37,8 @@ pub fn context_of(is_static: bool) -> Context
 pub fn class_span(walk: ClassWalk) -> Span
     ensures { result ≡ the_class_span walk.entry }
 {
-    written_span(walk.bodies.calls.program.source.sites.written(walk.class))
+    let bodies = walk.bodies;
+    written_span(bodies.calls.program.source.sites.written(walk.class))
 }
 
 /// The scope at the head of a member's body, or in an initializer.

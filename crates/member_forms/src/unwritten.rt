@@ -76,7 +76,8 @@ fn unwritten_flags(walk: ClassWalk) -> Flags
     ensures { result ≡ default_flags
         (access_in (slice_get (program_of walk.entry).classes walk.entry.class.0)) }
 {
-    default_candidate(alloc(walk), walk.bodies.calls.program.classes, walk.class).flags
+    let bodies = walk.bodies;
+    default_candidate(alloc(walk), bodies.calls.program.classes, walk.class).flags
 }
 
 // A block with that span alone, which declares nothing.
@@ -153,8 +154,9 @@ pub fn default_constructor<'a>(walk: ClassWalk) -> Result<MembersDone<'a>, Refus
     ensures ok { IfOk result (λ d. the_default_constructor walk.entry ≡ gives (members_seen d)) }
     ensures err { IfErr result (IsFault (the_default_constructor walk.entry)) }
 {
+    let bodies = walk.bodies;
     let scope = scope_in(walk, Context::Instance, None, true);
-    implicit_constructor_call(walk.bodies.calls, scope.place(), class_span(walk))?;
+    implicit_constructor_call(bodies.calls, scope.place(), class_span(walk))?;
     let done = default_code(walk)?;
     Ok(done)
 }
@@ -175,7 +177,8 @@ fn has_constructor(methods: &[MethodDecl]) -> bool
 pub fn is_without_constructor(walk: ClassWalk) -> bool
     ensures { result ≡ the_is_without_constructor walk.entry }
 {
-    match walk.bodies.calls.program.classes.class(walk.class) {
+    let bodies = walk.bodies;
+    match bodies.calls.program.classes.class(walk.class) {
         Some(declared) => !has_constructor(&declared.methods),
         None => true,
     }
@@ -200,8 +203,9 @@ fn made_by(walk: ClassWalk, word: Span, ty: &TyName) -> Result<SrcTy, Memory>
     ensures { IfOk result (λ t. shown t ≡ the_made_of (program_of walk.entry)
         (the_anonymous_type (program_of walk.entry) word (type_view ty.now))) }
 {
-    let program = &walk.bodies.calls.program;
-    let class = walk.bodies.spots.anonymous(program.source.sites, word);
+    let bodies = walk.bodies;
+    let program = &bodies.calls.program;
+    let class = bodies.spots.anonymous(program.source.sites, word);
     let named = anonymous_type(program, class, ty)?;
     made_of(alloc(walk), program.heads, &named)
 }
@@ -222,7 +226,8 @@ pub fn chosen_for(
         (type_view ty.now) (map seen args.now))) }
 {
     let made = made_by(walk, word, ty)?;
-    let method = chosen_constructor(walk.bodies.calls, scope.place(), &made, word, args)?;
+    let bodies = walk.bodies;
+    let method = chosen_constructor(bodies.calls, scope.place(), &made, word, args)?;
     Ok(method)
 }
 
@@ -231,7 +236,8 @@ fn declared_parameters(walk: ClassWalk, method: &Candidate) -> Result<Vec<Ty>, M
     ensures { IfOk result (λ ts. ts.items ≡
         the_declared_parameters (program_of walk.entry) (candidate_seen method.now)) }
 {
-    let program = &walk.bodies.calls.program;
+    let bodies = walk.bodies;
+    let program = &bodies.calls.program;
     let Some(class) = program.classes.class(method.class) else {
         return Ok(Vec::new(alloc(walk)));
     };

@@ -12,14 +12,15 @@ use std::alloc::Global;
 /// A class whose members are judged, the bodies round it, the innermost first, and the names of the program.
 #[derive(Clone, Copy)]
 pub struct ClassWalk<'a> {
-    pub bodies: Bodies<'a>,
+    pub bodies: &'a Bodies<'a>,
     pub class: ClassId,
     pub round: &'a [Frame],
     pub names: &'a Names,
-    ghost named: { names.now ≡ (source_of bodies.calls.program.source.sites.now).texts },
+    ghost named: { names.now ≡ (source_of bodies.now.calls.program.source.sites.now).texts },
 }
 
 /// Where nodes are made.
 pub fn alloc(walk: ClassWalk) -> Global {
-    walk.bodies.calls.program.source.alloc
+    let bodies = walk.bodies;
+    bodies.calls.program.source.alloc
 }

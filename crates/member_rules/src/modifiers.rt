@@ -7,7 +7,7 @@ use je_ast::{Modifier, ModifierKind};
 use je_base::Span;
 
 /// What is declared.
-#[derive(Clone, Copy, PartialEq, Eq, Debug)]
+#[derive(Clone, Copy, PartialEq, Eq)]
 pub enum Declared {
     /// A class.
     Class,
@@ -24,7 +24,7 @@ pub enum Declared {
 }
 
 /// What a declaration stands in.
-#[derive(Clone, Copy, PartialEq, Eq, Debug)]
+#[derive(Clone, Copy, PartialEq, Eq)]
 pub enum Surrounding {
     /// A file: it stands at the top.
     Unit,

@@ -22,7 +22,7 @@ pub enum FaultKind {
 }
 
 /// A fault of a name, where it is written.
-#[derive(Clone, Copy, PartialEq, Eq, Debug)]
+#[derive(Clone, Copy, PartialEq, Eq)]
 pub struct NameFault {
     pub kind: FaultKind,
     pub span: Span,

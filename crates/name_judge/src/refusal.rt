@@ -4,7 +4,7 @@ use je_base::Memory;
 use name_faults::NameFault;
 
 /// Why the names of a program are refused.
-#[derive(Clone, Copy, PartialEq, Eq, Debug)]
+#[derive(Clone, Copy, PartialEq, Eq)]
 pub enum Refusal {
     /// Want of memory.
     Memory,

@@ -8,7 +8,7 @@ ghost use Rattle.name_lookup.specs.View.{look_view};
 use je_core::ClassId;
 
 /// What a name is found to be.
-#[derive(Clone, Copy, PartialEq, Eq, Debug)]
+#[derive(Clone, Copy, PartialEq, Eq)]
 pub enum Look {
     /// Not known before the header of this class is.
     Waits(ClassId),
@@ -23,7 +23,7 @@ pub enum Look {
 }
 
 /// The part of a class that a name stands in.
-#[derive(Clone, Copy, PartialEq, Eq, Debug)]
+#[derive(Clone, Copy, PartialEq, Eq)]
 pub enum Part {
     /// Its type parameters' bounds and the types that it names as above it. Its members aren't in scope there.
     Header,
@@ -34,7 +34,7 @@ pub enum Part {
 }
 
 /// Where a name stands.
-#[derive(Clone, Copy, PartialEq, Eq, Debug)]
+#[derive(Clone, Copy, PartialEq, Eq)]
 pub struct Place {
     pub class: ClassId,
     pub part: Part,

@@ -44,7 +44,7 @@ pub struct Sites<'a> {
 }
 
 /// What stands directly round a class.
-#[derive(Clone, Copy, PartialEq, Eq, Debug)]
+#[derive(Clone, Copy, PartialEq, Eq)]
 pub struct Outside {
     /// The class directly round it.
     pub within: Option<ClassId>,

@@ -33,7 +33,7 @@ pub enum Context {
 }
 
 /// What a class is written in. Classes are named by their numbers.
-#[derive(Clone, Copy, PartialEq, Eq, Debug)]
+#[derive(Clone, Copy, PartialEq, Eq)]
 pub struct Spot {
     /// The place of its unit.
     pub unit: usize,

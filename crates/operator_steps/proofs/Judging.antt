@@ -39,14 +39,14 @@ module _ (heads : List ClassHead) (at left_span right_span span : Span) (left ri
   assignment_faults r h = subst (λ (step : Judged TypedNode). IsFault step r) (sym by-value)
       (bind_faults (judged_value heads left_span right_span left right) (λ (u : Core). gives (assign_node heads at span left u)) r h)
 
-module _ (o : BinOp) (at left_span span : Span) (left right : TypedNode) where
-  by-sides : update o at left_span span left right ≡ bind (judged_sides o at left_span left right) (λ done. gives (update_node o at span left right.node))
+module _ (heads : List ClassHead) (o : BinOp) (at left_span span : Span) (left right : TypedNode) where
+  by-sides : update heads o at left_span span left right ≡ bind (judged_sides o at left_span left right) (λ done. gives (update_node heads o at span left right.node))
   unfolding update judged_sides
-  by-sides = both (check BadOperand at (updates o left.type right.type)) (place left_span left) (update_node o at span left right.node)
+  by-sides = both (check BadOperand at (updates o left.type right.type)) (place left_span left) (update_node heads o at span left right.node)
 
-  pub update_gives : (done : Unit {0}) → judged_sides o at left_span left right ≡ gives done → update o at left_span span left right ≡ gives (update_node o at span left right.node)
-  update_gives done e = by-sides ∙ bind_gives (judged_sides o at left_span left right) (λ again. gives (update_node o at span left right.node)) done e
+  pub update_gives : (done : Unit {0}) → judged_sides o at left_span left right ≡ gives done → update heads o at left_span span left right ≡ gives (update_node heads o at span left right.node)
+  update_gives done e = by-sides ∙ bind_gives (judged_sides o at left_span left right) (λ again. gives (update_node heads o at span left right.node)) done e
 
-  pub update_faults : (r : Refusal) → IsFault (judged_sides o at left_span left right) r → IsFault (update o at left_span span left right) r
+  pub update_faults : (r : Refusal) → IsFault (judged_sides o at left_span left right) r → IsFault (update heads o at left_span span left right) r
   update_faults r h = subst (λ (step : Judged TypedNode). IsFault step r) (sym by-sides)
-      (bind_faults (judged_sides o at left_span left right) (λ again. gives (update_node o at span left right.node)) r h)
+      (bind_faults (judged_sides o at left_span left right) (λ again. gives (update_node heads o at span left right.node)) r h)

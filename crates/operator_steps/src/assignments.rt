@@ -145,6 +145,7 @@ fn judged_sides(
 #[tactic(auto, using(je_core::proofs::Views::view_is))]
 fn typed_update(
     alloc: Global,
+    heads: &ClassHeads,
     op: BinOp,
     at: Span,
     span: Span,
@@ -152,11 +153,11 @@ fn typed_update(
     right: TypedExpr,
 ) -> Result<TypedExpr, Memory>
     ensures { IfOk result (λ t. seen t ≡
-        the_update_node op at span (seen left) (view right.node)) }
+        the_update_node (heads_of heads.now) op at span (seen left) (view right.node)) }
 {
     let TypedExpr { node, ty } = left;
     let mark = Mark {
-        ty: node.ty,
+        ty: erased(heads, &ty),
         span,
         at,
     };
@@ -169,6 +170,7 @@ fn typed_update(
 #[tactic(auto, using(je_typing::proofs::Walks::walks, crate::proofs::Judging::update_faults))]
 fn update(
     alloc: Global,
+    heads: &ClassHeads,
     op: BinOp,
     at: Span,
     left_span: Span,
@@ -176,13 +178,13 @@ fn update(
     left: TypedExpr,
     right: TypedExpr,
 ) -> Result<TypedExpr, Refusal>
-    ensures ok { IfOk result (λ t. the_update op at left_span span (seen left) (seen right)
-        ≡ gives (seen t)) }
-    ensures err { IfErr result (IsFault
-        (the_update op at left_span span (seen left) (seen right))) }
+    ensures ok { IfOk result (λ t. the_update (heads_of heads.now) op at left_span span (seen left)
+        (seen right) ≡ gives (seen t)) }
+    ensures err { IfErr result (IsFault (the_update (heads_of heads.now) op at left_span span
+        (seen left) (seen right))) }
 {
     judged_sides(op, at, left_span, &left, &right)?;
-    let whole = typed_update(alloc, op, at, span, left, right)?;
+    let whole = typed_update(alloc, heads, op, at, span, left, right)?;
     Ok(whole)
 }
 
@@ -190,6 +192,7 @@ fn update(
 #[tactic(auto, unfolding(je_typing::specs::Assignments::compound), using(je_typing::proofs::Walks::walks))]
 pub fn compound(
     alloc: Global,
+    heads: &ClassHeads,
     op: BinaryOp,
     at: Span,
     left_span: Span,
@@ -197,12 +200,12 @@ pub fn compound(
     left: TypedExpr,
     right: TypedExpr,
 ) -> Result<TypedExpr, Refusal>
-    ensures ok { IfOk result (λ t. the_compound op at left_span span (seen left) (seen right)
-        ≡ gives (seen t)) }
-    ensures err { IfErr result (IsFault
-        (the_compound op at left_span span (seen left) (seen right))) }
+    ensures ok { IfOk result (λ t. the_compound (heads_of heads.now) op at left_span span (seen left)
+        (seen right) ≡ gives (seen t)) }
+    ensures err { IfErr result (IsFault (the_compound (heads_of heads.now) op at left_span span
+        (seen left) (seen right))) }
 {
     let core = need(TypeRule::BadOperand, at, core_op(op))?;
-    let whole = update(alloc, core, at, left_span, span, left, right)?;
+    let whole = update(alloc, heads, core, at, left_span, span, left, right)?;
     Ok(whole)
 }

@@ -1,12 +1,11 @@
-// Methods of a class with one name and erasure.
+// Two methods with one name and erasure.
 
-ghost use Rattle.std.specs.Prelude.{◌≡◌, ◌++◌, ◌||◌, IfOk, IfErr, map, not};
+ghost use Rattle.std.specs.Prelude.{◌≡◌, IfOk, IfErr, map};
 ghost use Rattle.std.specs.List.{list_any};
 ghost use Rattle.class_heads.specs.View.{classes_of};
 ghost use Rattle.declarations.specs.View.{method_shown};
 ghost use Rattle.je_typing.specs.Answers.{IsFault};
-ghost use Rattle.je_typing.specs.Judged.{gives, check as the_check};
-ghost use Rattle.je_typing.specs.declared.fault.TypeRule.TheVariants as rule;
+ghost use Rattle.je_typing.specs.Judged.{gives};
 ghost use Rattle.name_types.specs.View.{shown};
 ghost use Rattle.overriding.specs.Overrides as words;
 ghost use Rattle.class_methods.specs.View.{method_seen};
@@ -19,7 +18,7 @@ use crate::overrides::is_result_for;
 use class_heads::AllClasses;
 use class_methods::{Method, are_same_types, is_same_method, overrides};
 use declarations::MethodDecl;
-use je_base::{Memory, Span};
+use je_base::Memory;
 use je_typing::{Refusal, TypeRule, check};
 use name_types::SrcTy;
 use source_subtypes::{ClassHeads, erased};
@@ -43,7 +42,8 @@ pub fn are_same_erased(heads: &ClassHeads, types: &[SrcTy], others: &[SrcTy]) ->
     left.is_empty()
 }
 
-fn have_one_erasure(heads: &ClassHeads, method: &MethodDecl, other: &MethodDecl) -> bool
+/// Whether two methods have one name, and the same parameters once erased.
+pub fn have_one_erasure(heads: &ClassHeads, method: &MethodDecl, other: &MethodDecl) -> bool
     ensures { result ≡ words.have_one_erasure (heads_of heads.now) (method_shown method.now)
         (method_shown other.now) }
 {
@@ -77,7 +77,8 @@ fn are_abstract_alike(method: &Method, other: &Method) -> bool
     method.is_abstract && other.is_abstract && are_same_types(&method.parameters, &other.parameters)
 }
 
-fn is_override(
+/// Whether one method overrides another one by the class that declares it, or implements it (JLS 8.4.8).
+pub fn is_override(
     alloc: Global,
     heads: &ClassHeads,
     classes: AllClasses,
@@ -143,55 +144,8 @@ fn clashes(
     Ok(false)
 }
 
-fn clashes_with_either(
-    alloc: Global,
-    heads: &ClassHeads,
-    classes: AllClasses,
-    earlier: &[Method],
-    inherited: &[Method],
-    method: &Method,
-) -> Result<bool, Memory>
-    ensures { IfOk result (λ does. does ≡
-        (words.clashes (heads_of heads.now) (classes_of classes.entry)
-        (map method_seen earlier.now) (method_seen method.now)
-        || words.clashes (heads_of heads.now) (classes_of classes.entry)
-        (map method_seen inherited.now) (method_seen method.now))) }
-{
-    if clashes(alloc, heads, classes, earlier, method)? {
-        return Ok(true);
-    }
-    let does = clashes(alloc, heads, classes, inherited, method)?;
-    Ok(does)
-}
-
-/// Nothing where a method clashes with none that its class declares before it, nor with one that the class inherits; else
-/// SameErasure at its name (JLS 8.4.2, 8.4.8.3).
-#[tactic(auto, using(je_typing::proofs::Walks::walks))]
-pub fn no_clash(
-    alloc: Global,
-    heads: &ClassHeads,
-    classes: AllClasses,
-    earlier: &[Method],
-    inherited: &[Method],
-    method: &Method,
-) -> Result<(), Refusal>
-    ensures ok { IfOk result (λ done. the_check rule.SameErasure method.now.declared.now.name.span
-        (not (words.clashes (heads_of heads.now) (classes_of classes.entry)
-        (map method_seen earlier.now) (method_seen method.now)
-        || words.clashes (heads_of heads.now) (classes_of classes.entry)
-        (map method_seen inherited.now) (method_seen method.now))) ≡ gives done) }
-    ensures err { IfErr result (IsFault
-        (the_check rule.SameErasure method.now.declared.now.name.span
-        (not (words.clashes (heads_of heads.now) (classes_of classes.entry)
-        (map method_seen earlier.now) (method_seen method.now)
-        || words.clashes (heads_of heads.now) (classes_of classes.entry)
-        (map method_seen inherited.now) (method_seen method.now))))) }
-{
-    let does = clashes_with_either(alloc, heads, classes, earlier, inherited, method)?;
-    check(TypeRule::SameErasure, method.declared.name.span, !does)
-}
-
-fn some_clash(
+/// Whether two of these clash.
+pub fn some_clash(
     alloc: Global,
     heads: &ClassHeads,
     classes: AllClasses,
@@ -206,26 +160,6 @@ fn some_clash(
         }
     }
     Ok(false)
-}
-
-/// Nothing where no two methods that a class inherits clash, else SameErasure at the class (JLS 8.4.8.3).
-#[tactic(auto, using(je_typing::proofs::Walks::walks))]
-pub fn no_inherited_clash(
-    alloc: Global,
-    heads: &ClassHeads,
-    classes: AllClasses,
-    inherited: &[Method],
-    span: Span,
-) -> Result<(), Refusal>
-    ensures ok { IfOk result (λ done. the_check rule.SameErasure span
-        (not (words.some_clash (heads_of heads.now) (classes_of classes.entry)
-        (map method_seen inherited.now))) ≡ gives done) }
-    ensures err { IfErr result (IsFault (the_check rule.SameErasure span
-        (not (words.some_clash (heads_of heads.now) (classes_of classes.entry)
-        (map method_seen inherited.now))))) }
-{
-    let do_clash = some_clash(alloc, heads, classes, inherited)?;
-    check(TypeRule::SameErasure, span, !do_clash)
 }
 
 // Whether one of these is a constructor with a constructor's erasure.

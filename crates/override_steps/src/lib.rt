@@ -5,10 +5,13 @@
 //! memory. Those that ask something of what a class inherits are handed it.
 #![tactic(auto)]
 
+mod above;
 mod clashing;
 mod implementing;
+mod inherited;
 mod overrides;
 
-pub use clashing::{are_same_erased, no_clash, no_constructor_clash, no_inherited_clash};
+pub use above::good_method;
+pub use clashing::{are_same_erased, is_override, no_constructor_clash};
 pub use implementing::{all_implemented, good_implementations};
-pub use overrides::good_override;
+pub use inherited::no_inherited_clash;

@@ -1,23 +1,18 @@
 // What is asked of methods that override others.
 
-ghost use Rattle.std.specs.Prelude.{◌≡◌, IfOk, IfErr, codes, map};
+ghost use Rattle.std.specs.Prelude.{◌≡◌, IfOk, codes, map};
 ghost use Rattle.std.specs.List.{list_all, list_any};
-ghost use Rattle.class_heads.specs.View.{classes_of};
 ghost use Rattle.je_scopes.specs.SourceTypes.{no_source_types, of_class};
-ghost use Rattle.je_typing.specs.Answers.{IsFault};
-ghost use Rattle.je_typing.specs.Judged.{gives};
 ghost use Rattle.name_types.specs.View.{shown};
 ghost use Rattle.overriding.specs.Overrides as words;
 ghost use Rattle.class_methods.specs.View.{method_seen};
 ghost use Rattle.source_subtypes.specs.View.{heads_of};
 ghost use Rattle.source_types.specs.Subtypes.{is_subtype as the_is_subtype};
 
-use class_heads::AllClasses;
-use class_methods::{Method, is_subsignature, methods_above, unbounded};
+use class_methods::{Method, is_subsignature, unbounded};
 use je_base::Memory;
 use je_core::{Access, Base, ClassId, Ty};
 use je_table::LibraryClass;
-use je_typing::{Refusal, TypeRule, check};
 use name_types::SrcTy;
 use source_subtypes::{ClassHeads, is_same, is_subtype};
 use std::alloc::Global;
@@ -185,7 +180,8 @@ fn overrides_well(
     Ok(may)
 }
 
-fn overrides_all_well(
+/// Whether a method may override all of these that it does override.
+pub fn overrides_all_well(
     alloc: Global,
     heads: &ClassHeads,
     method: &Method,
@@ -201,38 +197,4 @@ fn overrides_all_well(
         }
     }
     Ok(true)
-}
-
-// Whether a method may override all that it does override.
-#[tactic(auto, using(class_methods::proofs::Lists::same_all))]
-fn is_good_override(
-    alloc: Global,
-    heads: &ClassHeads,
-    classes: AllClasses,
-    method: &Method,
-) -> Result<bool, Memory>
-    ensures { IfOk result (λ good. good ≡ words.is_good_override (heads_of heads.now)
-        (classes_of classes.entry) (method_seen method.now)) }
-{
-    let above = methods_above(alloc, heads, classes, method.holder)?;
-    let well = overrides_all_well(alloc, heads, method, &above)?;
-    Ok(well)
-}
-
-/// Nothing where a method that a class declares may override all that it does override, else BadOverride at its name (JLS
-/// 8.4.5, 8.4.6, 8.4.8).
-#[tactic(auto, unfolding(overriding::specs::Overrides::good_override), using(je_typing::proofs::Walks::walks))]
-pub fn good_override(
-    alloc: Global,
-    heads: &ClassHeads,
-    classes: AllClasses,
-    method: &Method,
-) -> Result<(), Refusal>
-    ensures ok { IfOk result (λ done. words.good_override (heads_of heads.now)
-        (classes_of classes.entry) (method_seen method.now) ≡ gives done) }
-    ensures err { IfErr result (IsFault (words.good_override (heads_of heads.now)
-        (classes_of classes.entry) (method_seen method.now))) }
-{
-    let holds = is_good_override(alloc, heads, classes, method)?;
-    check(TypeRule::BadOverride, method.declared.name.span, holds)
 }

@@ -1,6 +1,6 @@
 -- What is asked of methods that override others, and of the methods of a class together (JLS 8.1.1.1, 8.4.2, 8.4.5, 8.4.6,
 -- 8.4.8, 8.8.2, 9.4.1).
-use Rattle.std.specs.Prelude.{ℕ, Bool, true, false, not, ◌&&◌, ◌||◌, List, ◌++◌, map, take, Option, Some, None, slice_get, nat_le, nat_eq, codes}
+use Rattle.std.specs.Prelude.{ℕ, Bool, true, false, not, ◌&&◌, ◌||◌, List, ◌++◌, map, filter, take, Option, Some, None, slice_get, nat_le, nat_eq, codes}
 use Rattle.std.specs.List.{list_any, list_all}
 use Rattle.je_base.specs.declared.span.Span.{Span}
 use Rattle.je_core.specs.declared.program.Access.{Access}
@@ -17,7 +17,7 @@ use Rattle.source_types.specs.Supertypes.{supertypes}
 use Rattle.declarations.specs.Declarations.{DeclaredClass, DeclaredMethod}
 use Rattle.je_typing.specs.declared.fault.TypeRule.TheVariants.{NotAbstract, BadOverride, SameErasure}
 use Rattle.je_typing.specs.Judged.{Judged, check}
-use Rattle.overriding.specs.Methods.{Method, own, own_from, methods_in, inherited, methods_above, overrides, is_same, is_subsignature, have_one_signature, are_same_types, erasure, unbounded}
+use Rattle.overriding.specs.Methods.{Method, own, own_from, own_method, methods_in, inherited, methods_above, overrides, is_same, is_subsignature, have_one_name, have_one_signature, are_same_types, erasure, unbounded}
 
 -- ---- one method overrides another one
 
@@ -145,14 +145,40 @@ clash heads classes m n =
 abbrev pub clashes : List ClassHead → List DeclaredClass → List Method → Method → Bool
 clashes heads classes ms m = list_any (clash heads classes m) ms
 
+-- ---- a method against all that the classes above declare, overridden ones, too
+
+-- whether a method, or one of these that it overrides, has the erasure of another one
+abbrev pub shares_erasure : List ClassHead → List Method → Method → Method → Bool
+shares_erasure heads overridden m n =
+    have_one_erasure heads m.declared n.declared || list_any (λ (j : Method). have_one_erasure heads j.declared n.declared) overridden
+
+-- so, and it doesn't override that one
+abbrev pub takes_erasure : List ClassHead → List Method → Method → Method → Bool
+takes_erasure heads overridden m n = have_one_name m n && not (is_subsignature heads m n) && shares_erasure heads overridden m n
+
+-- those of some methods that a method overrides
+abbrev pub overridden_of : List ClassHead → Method → List Method → List Method
+overridden_of heads m above = filter (is_subsignature heads m) above
+
+-- A method takes the erasure of one of those above its class.
+abbrev pub clashes_above : List ClassHead → Method → List Method → Bool
+clashes_above heads m above = list_any (takes_erasure heads (overridden_of heads m above) m) above
+
+-- ---- a method that a class declares
+
 -- those that its class declares before it
 abbrev pub own_before : List DeclaredClass → Method → List Method
 own_before classes m = own_from m.holder 0 (take m.place (methods_in (slice_get classes m.holder)))
 
--- a method that a class declares, of those before it and of what the class inherits
+abbrev pub is_like_one : List ClassHead → List Method → Method → Bool
+is_like_one heads ms m = list_any (λ (n : Method). have_one_erasure heads m.declared n.declared) ms
+
+-- Its erasure is that of none before it, and neither its own nor that of one that it overrides is that of a method above
+-- that it doesn't override.
 unfoldable pub no_clash : List ClassHead → List DeclaredClass → Method → Judged (Unit {0})
 no_clash heads classes m =
-    check SameErasure m.declared.name.span (not (clashes heads classes (own_before classes m ++ inherited heads classes m.holder) m))
+    check SameErasure m.declared.name.span
+    (not (is_like_one heads (own_before classes m) m || clashes_above heads m (methods_above heads classes m.holder)))
 
 -- one of these is a constructor with a constructor's erasure
 abbrev pub has_constructor : List ClassHead → List DeclaredMethod → DeclaredMethod → Bool
@@ -162,11 +188,31 @@ has_constructor heads earlier m = list_any (λ (n : DeclaredMethod). n.is_constr
 unfoldable pub no_constructor_clash : List ClassHead → List DeclaredMethod → DeclaredMethod → Judged (Unit {0})
 no_constructor_clash heads earlier m = check SameErasure m.name.span (not (has_constructor heads earlier m))
 
+-- ---- the methods that a class inherits
+
 -- two of these clash
 abbrev pub some_clash : List ClassHead → List DeclaredClass → List Method → Bool
 some_clash heads classes ms = list_any (clashes heads classes ms) ms
 
--- what a class inherits
+-- those that a method overrides by the class that declares it
+abbrev pub overridden : List ClassHead → List DeclaredClass → Method → List Method
+overridden heads classes m =
+    overridden_of heads (own_method m.holder m.place m.declared) (methods_above heads classes m.holder)
+
+-- It takes the erasure of another one, and neither overrides the other.
+abbrev pub takes_unrelated : List ClassHead → List DeclaredClass → List Method → Method → Method → Bool
+takes_unrelated heads classes overridden m n =
+    takes_erasure heads overridden m n && not (overrides heads classes m n || overrides heads classes n m)
+
+abbrev pub clash_above : List ClassHead → List DeclaredClass → Method → Method → Bool
+clash_above heads classes m n = takes_unrelated heads classes (overridden heads classes m) m n
+
+-- one of these clashes so with one of those above
+abbrev pub some_clash_above : List ClassHead → List DeclaredClass → List Method → List Method → Bool
+some_clash_above heads classes above ms = list_any (λ m. list_any (clash_above heads classes m) above) ms
+
 unfoldable pub no_inherited_clash : List ClassHead → List DeclaredClass → ℕ → Span → Judged (Unit {0})
 no_inherited_clash heads classes c span =
-    check SameErasure span (not (some_clash heads classes (inherited heads classes c)))
+    check SameErasure span
+    (not (some_clash heads classes (inherited heads classes c)
+    || some_clash_above heads classes (methods_above heads classes c) (inherited heads classes c)))

@@ -3,7 +3,7 @@
 use je_base::{Memory, Span};
 
 /// Why tokens aren't read.
-#[derive(Clone, Copy, PartialEq, Eq, Debug)]
+#[derive(Clone, Copy, PartialEq, Eq)]
 pub enum ParseFault {
     /// Want of memory.
     Memory,

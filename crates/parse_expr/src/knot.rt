@@ -57,7 +57,7 @@ pub fn expr<'a>(alloc: Global, setting: &Setting, place: Place<'a>) -> Read<'a, 
     let members = |tokens| -> ReadClosed<Member>
         ensures { IfOk result (IsBody below.entry tokens.now) }
     { body(alloc, &below, tokens) };
-    let read = expression(inner, values, members, alloc, &below, place);
+    let read = expression(&inner, &values, &members, alloc, &below, place);
     read
 }
 
@@ -117,7 +117,9 @@ pub fn stmt<'a>(alloc: Global, setting: &Setting, tokens: &'a [Token]) -> Read<'
     let blocks = |tokens| -> Read<Block>
         ensures { IfOk result (IsBlock below.entry tokens.now) }
     { block(alloc, &below, tokens) };
-    let read = statement(inner, values, stmts, items, blocks, alloc, &below, tokens);
+    let read = statement(
+        &inner, &values, &stmts, &items, &blocks, alloc, &below, tokens,
+    );
     read
 }
 
@@ -236,7 +238,9 @@ pub fn member<'a>(alloc: Global, setting: &Setting, tokens: &'a [Token]) -> Read
     let members = |tokens| -> Read<Member>
         ensures { IfOk result (IsMember below.entry tokens.now) }
     { member(alloc, &below, tokens) };
-    let read = parse_members::member(inner, values, items, blocks, members, alloc, &below, tokens);
+    let read = parse_members::member(
+        &inner, &values, &items, &blocks, &members, alloc, &below, tokens,
+    );
     read
 }
 

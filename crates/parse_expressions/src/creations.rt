@@ -34,19 +34,19 @@ pub fn creation<
     I: Fn(&'a [Token]) -> Read<'a, Expr>,
     B: Fn(&'a [Token]) -> ReadClosed<'a, Member>,
 >(
-    expr: E,
-    initializer: I,
-    body: B,
+    expr: &E,
+    initializer: &I,
+    body: &B,
     alloc: Global,
     setting: &Setting,
     tokens: &'a [Token],
 ) -> Read<'a, Expr>
-    requires callable { E.IsAlwaysCallable expr }
-    requires reads { Reads setting.now (E.post expr) }
-    requires initializer_callable { I.IsAlwaysCallable initializer }
-    requires initializer_reads { ReadsInitializers setting.now (I.post initializer) }
-    requires body_callable { B.IsAlwaysCallable body }
-    requires body_reads { ReadsBodies setting.now (B.post body) }
+    requires callable { E.IsAlwaysCallable expr.now }
+    requires reads { Reads setting.now (E.post expr.now) }
+    requires initializer_callable { I.IsAlwaysCallable initializer.now }
+    requires initializer_reads { ReadsInitializers setting.now (I.post initializer.now) }
+    requires body_callable { B.IsAlwaysCallable body.now }
+    requires body_reads { ReadsBodies setting.now (B.post body.now) }
     requires fits { setting.now.below < 2 ^ 32 - 1 }
     ensures value { IfOk result (λ o. seen view o ≡ creation_at setting.now tokens.now) }
     ensures height { IfOk result (HasHeights (setting.now.below + 1)) }
@@ -56,9 +56,9 @@ pub fn creation<
     };
     if 0 < setting.below {
         return created(
-            &expr,
-            &initializer,
-            &body,
+            expr,
+            initializer,
+            body,
             alloc,
             setting,
             first_span(tokens),
@@ -75,46 +75,46 @@ fn created<
     I: Fn(&'a [Token]) -> Read<'a, Expr>,
     B: Fn(&'a [Token]) -> ReadClosed<'a, Member>,
 >(
-    expr: E,
-    initializer: I,
-    body: B,
+    expr: &E,
+    initializer: &I,
+    body: &B,
     alloc: Global,
     setting: &Setting,
     word: Span,
     tokens: &'a [Token],
 ) -> Read<'a, Expr>
-    requires callable { E.IsAlwaysCallable expr }
-    requires reads { Reads setting.now (E.post expr) }
-    requires initializer_callable { I.IsAlwaysCallable initializer }
-    requires initializer_reads { ReadsInitializers setting.now (I.post initializer) }
-    requires body_callable { B.IsAlwaysCallable body }
-    requires body_reads { ReadsBodies setting.now (B.post body) }
+    requires callable { E.IsAlwaysCallable expr.now }
+    requires reads { Reads setting.now (E.post expr.now) }
+    requires initializer_callable { I.IsAlwaysCallable initializer.now }
+    requires initializer_reads { ReadsInitializers setting.now (I.post initializer.now) }
+    requires body_callable { B.IsAlwaysCallable body.now }
+    requires body_reads { ReadsBodies setting.now (B.post body.now) }
     requires fits { setting.now.below < 2 ^ 32 - 1 }
     requires room { 0 < setting.now.below }
     ensures value { IfOk result (λ o. seen view o ≡ created_at setting.now word tokens.now) }
     ensures height { IfOk result (HasHeights (setting.now.below + 1)) }
 {
     if makes_array(tokens) {
-        array(&expr, &initializer, alloc, setting, word, tokens)
+        array(expr, initializer, alloc, setting, word, tokens)
     } else {
-        object(&expr, &body, alloc, setting, word, tokens)
+        object(expr, body, alloc, setting, word, tokens)
     }
 }
 
 // `Ref Args [Body]` behind the word `new`, without the body where it can't be read.
 #[tactic(auto, using(parse_operators::proofs::Steps::arguments_absent), unfolding(parse_laws::specs::way::Expressions::object_at))]
 fn object<'a, E: Fn(Place<'a>) -> Read<'a, Expr>, B: Fn(&'a [Token]) -> ReadClosed<'a, Member>>(
-    expr: E,
-    body: B,
+    expr: &E,
+    body: &B,
     alloc: Global,
     setting: &Setting,
     word: Span,
     tokens: &'a [Token],
 ) -> Read<'a, Expr>
-    requires callable { E.IsAlwaysCallable expr }
-    requires reads { Reads setting.now (E.post expr) }
-    requires body_callable { B.IsAlwaysCallable body }
-    requires body_reads { ReadsBodies setting.now (B.post body) }
+    requires callable { E.IsAlwaysCallable expr.now }
+    requires reads { Reads setting.now (E.post expr.now) }
+    requires body_callable { B.IsAlwaysCallable body.now }
+    requires body_reads { ReadsBodies setting.now (B.post body.now) }
     requires fits { setting.now.below < 2 ^ 32 - 1 }
     ensures value { IfOk result (λ o. seen view o ≡ object_at setting.now word tokens.now) }
     ensures height { IfOk result (HasHeights (setting.now.below + 1)) }
@@ -125,7 +125,7 @@ fn object<'a, E: Fn(Place<'a>) -> Read<'a, Expr>, B: Fn(&'a [Token]) -> ReadClos
     let Some(behind_class) = class.rest.whole() else {
         return Ok(None);
     };
-    let Some(args) = arguments(&expr, alloc, setting, behind_class)? else {
+    let Some(args) = arguments(expr, alloc, setting, behind_class)? else {
         return Ok(None);
     };
     let made = Made {
@@ -192,17 +192,17 @@ fn anonymous<'a>(made: Made, members: Closed<'a, Member>) -> Found<'a, Expr>
 // `(Prim | Name) "[" ..` behind the word `new`.
 #[tactic(auto, unfolding(parse_laws::specs::way::Expressions::array_at))]
 fn array<'a, E: Fn(Place<'a>) -> Read<'a, Expr>, I: Fn(&'a [Token]) -> Read<'a, Expr>>(
-    expr: E,
-    initializer: I,
+    expr: &E,
+    initializer: &I,
     alloc: Global,
     setting: &Setting,
     word: Span,
     tokens: &'a [Token],
 ) -> Read<'a, Expr>
-    requires callable { E.IsAlwaysCallable expr }
-    requires reads { Reads setting.now (E.post expr) }
-    requires initializer_callable { I.IsAlwaysCallable initializer }
-    requires initializer_reads { ReadsInitializers setting.now (I.post initializer) }
+    requires callable { E.IsAlwaysCallable expr.now }
+    requires reads { Reads setting.now (E.post expr.now) }
+    requires initializer_callable { I.IsAlwaysCallable initializer.now }
+    requires initializer_reads { ReadsInitializers setting.now (I.post initializer.now) }
     requires fits { setting.now.below < 2 ^ 32 - 1 }
     requires room { 0 < setting.now.below }
     ensures value { IfOk result (λ o. seen view o ≡ array_at setting.now word tokens.now) }
@@ -211,23 +211,23 @@ fn array<'a, E: Fn(Place<'a>) -> Read<'a, Expr>, I: Fn(&'a [Token]) -> Read<'a, 
     let Some((element, rest)) = element(alloc, tokens)? else {
         return Ok(None);
     };
-    sized(&expr, &initializer, alloc, setting, word, element, rest)
+    sized(expr, initializer, alloc, setting, word, element, rest)
 }
 
 // What is behind the element type of an array creation: brackets with an initializer, or lengths.
 fn sized<'a, E: Fn(Place<'a>) -> Read<'a, Expr>, I: Fn(&'a [Token]) -> Read<'a, Expr>>(
-    expr: E,
-    initializer: I,
+    expr: &E,
+    initializer: &I,
     alloc: Global,
     setting: &Setting,
     word: Span,
     element: TyName,
     tokens: &'a [Token],
 ) -> Read<'a, Expr>
-    requires callable { E.IsAlwaysCallable expr }
-    requires reads { Reads setting.now (E.post expr) }
-    requires initializer_callable { I.IsAlwaysCallable initializer }
-    requires initializer_reads { ReadsInitializers setting.now (I.post initializer) }
+    requires callable { E.IsAlwaysCallable expr.now }
+    requires reads { Reads setting.now (E.post expr.now) }
+    requires initializer_callable { I.IsAlwaysCallable initializer.now }
+    requires initializer_reads { ReadsInitializers setting.now (I.post initializer.now) }
     requires fits { setting.now.below < 2 ^ 32 - 1 }
     requires room { 0 < setting.now.below }
     requires low { type_height (type_view element) ≡ 1 }
@@ -238,7 +238,7 @@ fn sized<'a, E: Fn(Place<'a>) -> Read<'a, Expr>, I: Fn(&'a [Token]) -> Read<'a, 
     let (count, _, behind_dims) = dims(word, tokens);
     if 0 < count {
         return filled(
-            &initializer,
+            initializer,
             alloc,
             setting,
             word,
@@ -247,20 +247,20 @@ fn sized<'a, E: Fn(Place<'a>) -> Read<'a, Expr>, I: Fn(&'a [Token]) -> Read<'a, 
             behind_dims,
         );
     }
-    with_lengths(&expr, alloc, setting, word, element, tokens)
+    with_lengths(expr, alloc, setting, word, element, tokens)
 }
 
 // The lengths behind the element type of an array creation, and the brackets behind them.
 fn with_lengths<'a, E: Fn(Place<'a>) -> Read<'a, Expr>>(
-    expr: E,
+    expr: &E,
     alloc: Global,
     setting: &Setting,
     word: Span,
     element: TyName,
     tokens: &'a [Token],
 ) -> Read<'a, Expr>
-    requires callable { E.IsAlwaysCallable expr }
-    requires reads { Reads setting.now (E.post expr) }
+    requires callable { E.IsAlwaysCallable expr.now }
+    requires reads { Reads setting.now (E.post expr.now) }
     requires fits { setting.now.below < 2 ^ 32 - 1 }
     requires room { 0 < setting.now.below }
     requires low { type_height (type_view element) ≡ 1 }
@@ -268,7 +268,7 @@ fn with_lengths<'a, E: Fn(Place<'a>) -> Read<'a, Expr>>(
         ≡ with_lengths_at setting.now word (type_view element) tokens.now) }
     ensures height { IfOk result (HasHeights (setting.now.below + 1)) }
 {
-    let Some(lengths) = lengths(&expr, alloc, setting, tokens)? else {
+    let Some(lengths) = lengths(expr, alloc, setting, tokens)? else {
         return Ok(None);
     };
     Ok(Some(empty_array(word, element, lengths)))
@@ -294,7 +294,7 @@ fn empty_array<'a>(word: Span, element: TyName, lengths: Closed<'a, Expr>) -> Fo
 // The initializer behind the brackets of an array creation.
 #[tactic(auto, unfolding(parse_laws::specs::way::Expressions::filled_at))]
 fn filled<'a, I: Fn(&'a [Token]) -> Read<'a, Expr>>(
-    initializer: I,
+    initializer: &I,
     alloc: Global,
     setting: &Setting,
     word: Span,
@@ -302,8 +302,8 @@ fn filled<'a, I: Fn(&'a [Token]) -> Read<'a, Expr>>(
     dims: usize,
     tokens: &'a [Token],
 ) -> Read<'a, Expr>
-    requires initializer_callable { I.IsAlwaysCallable initializer }
-    requires initializer_reads { ReadsInitializers setting.now (I.post initializer) }
+    requires initializer_callable { I.IsAlwaysCallable initializer.now }
+    requires initializer_reads { ReadsInitializers setting.now (I.post initializer.now) }
     requires fits { setting.now.below < 2 ^ 32 - 1 }
     requires room { 0 < setting.now.below }
     requires low { type_height (type_view element) ≡ 1 }

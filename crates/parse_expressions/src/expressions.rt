@@ -27,47 +27,47 @@ pub fn expression<
     I: Fn(&'a [Token]) -> Read<'a, Expr>,
     B: Fn(&'a [Token]) -> ReadClosed<'a, Member>,
 >(
-    expr: E,
-    initializer: I,
-    body: B,
+    expr: &E,
+    initializer: &I,
+    body: &B,
     alloc: Global,
     setting: &Setting,
     place: Place<'a>,
 ) -> Read<'a, Expr>
-    requires callable { E.IsAlwaysCallable expr }
-    requires reads { Reads setting.now (E.post expr) }
-    requires initializer_callable { I.IsAlwaysCallable initializer }
-    requires initializer_reads { ReadsInitializers setting.now (I.post initializer) }
-    requires body_callable { B.IsAlwaysCallable body }
-    requires body_reads { ReadsBodies setting.now (B.post body) }
+    requires callable { E.IsAlwaysCallable expr.now }
+    requires reads { Reads setting.now (E.post expr.now) }
+    requires initializer_callable { I.IsAlwaysCallable initializer.now }
+    requires initializer_reads { ReadsInitializers setting.now (I.post initializer.now) }
+    requires body_callable { B.IsAlwaysCallable body.now }
+    requires body_reads { ReadsBodies setting.now (B.post body.now) }
     requires fits { setting.now.below < 2 ^ 32 - 1 }
     ensures value { IfOk result (λ o. seen view o
         ≡ expression_layer setting.now place.entry.least place.entry.tokens.now) }
     ensures height { IfOk result (HasHeights (setting.now.below + 1)) }
 {
-    let Some(first) = unary(&expr, &initializer, &body, alloc, setting, place.tokens)? else {
+    let Some(first) = unary(expr, initializer, body, alloc, setting, place.tokens)? else {
         return Ok(None);
     };
-    Ok(Some(behind_operand(&expr, alloc, setting, first, place.least)?))
+    Ok(Some(behind_operand(expr, alloc, setting, first, place.least)?))
 }
 
 // The operators behind an operand.
 fn behind_operand<'a, E: Fn(Place<'a>) -> Read<'a, Expr>>(
-    expr: E,
+    expr: &E,
     alloc: Global,
     setting: &Setting,
     first: Found<'a, Expr>,
     least: u32,
 ) -> Result<Found<'a, Expr>, Memory>
-    requires callable { E.IsAlwaysCallable expr }
-    requires reads { Reads setting.now (E.post expr) }
+    requires callable { E.IsAlwaysCallable expr.now }
+    requires reads { Reads setting.now (E.post expr.now) }
     requires fits { setting.now.below < 2 ^ 32 - 1 }
     requires right { IsRight (setting.now.below + 1) first }
     ensures value { IfOk result (λ x. seen_found x
         ≡ behind_operand_at setting.now least (view first.entry.tree) first.entry.rest.now) }
     ensures height { IfOk result (IsRight (setting.now.below + 1)) }
 {
-    let joined = operations(&expr, alloc, setting, first, least)?;
-    let chosen = conditional(&expr, alloc, setting, joined, least)?;
-    assignment(&expr, alloc, setting, chosen, least)
+    let joined = operations(expr, alloc, setting, first, least)?;
+    let chosen = conditional(expr, alloc, setting, joined, least)?;
+    assignment(expr, alloc, setting, chosen, least)
 }

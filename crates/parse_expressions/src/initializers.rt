@@ -45,13 +45,13 @@ pub fn array_initializer<'a, I: Fn(&'a [Token]) -> Read<'a, Expr>>(
 // `[Init {"," Init}] [","] "}"`
 #[tactic(auto, using(parse_operators::proofs::Steps::values_step, parse_operators::proofs::Steps::values_none, parse_operators::proofs::Steps::lists_same, parse_operators::proofs::Steps::views_push, parse_operators::proofs::Steps::heights_push))]
 fn values<'a, I: Fn(&'a [Token]) -> Read<'a, Expr>>(
-    initializer: I,
+    initializer: &I,
     alloc: Global,
     setting: &Setting,
     tokens: &'a [Token],
 ) -> ReadClosed<'a, Expr>
-    requires callable { I.IsAlwaysCallable initializer }
-    requires reads { ReadsInitializers setting.now (I.post initializer) }
+    requires callable { I.IsAlwaysCallable initializer.now }
+    requires reads { ReadsInitializers setting.now (I.post initializer.now) }
     ensures value { IfOk result (λ o. seen_items o ≡ values_at setting.now
         (length tokens.now) [] (behind_lone_comma_at tokens.now)) }
     ensures height { IfOk result (HaveHeights setting.now.below) }

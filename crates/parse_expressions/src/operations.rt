@@ -25,14 +25,14 @@ use std::alloc::Global;
 /// Behind an operator only those go on that bind no tighter.
 #[tactic(auto, using(crate::proofs::OperatorTurns::operations_ends))]
 pub fn operations<'a, E: Fn(Place<'a>) -> Read<'a, Expr>>(
-    expr: E,
+    expr: &E,
     alloc: Global,
     setting: &Setting,
     operand: Found<'a, Expr>,
     least: u32,
 ) -> Result<Found<'a, Expr>, Memory>
-    requires callable { E.IsAlwaysCallable expr }
-    requires reads { Reads setting.now (E.post expr) }
+    requires callable { E.IsAlwaysCallable expr.now }
+    requires reads { Reads setting.now (E.post expr.now) }
     requires fits { setting.now.below < 2 ^ 32 - 1 }
     requires right { IsRight (setting.now.below + 1) operand }
     ensures value { IfOk result (λ x. seen_found x ≡ operations_at setting.now

@@ -30,58 +30,58 @@ pub fn postfix<
     I: Fn(&'a [Token]) -> Read<'a, Expr>,
     B: Fn(&'a [Token]) -> ReadClosed<'a, Member>,
 >(
-    expr: E,
-    initializer: I,
-    body: B,
+    expr: &E,
+    initializer: &I,
+    body: &B,
     alloc: Global,
     setting: &Setting,
     tokens: &'a [Token],
 ) -> Read<'a, Expr>
-    requires callable { E.IsAlwaysCallable expr }
-    requires reads { Reads setting.now (E.post expr) }
-    requires initializer_callable { I.IsAlwaysCallable initializer }
-    requires initializer_reads { ReadsInitializers setting.now (I.post initializer) }
-    requires body_callable { B.IsAlwaysCallable body }
-    requires body_reads { ReadsBodies setting.now (B.post body) }
+    requires callable { E.IsAlwaysCallable expr.now }
+    requires reads { Reads setting.now (E.post expr.now) }
+    requires initializer_callable { I.IsAlwaysCallable initializer.now }
+    requires initializer_reads { ReadsInitializers setting.now (I.post initializer.now) }
+    requires body_callable { B.IsAlwaysCallable body.now }
+    requires body_reads { ReadsBodies setting.now (B.post body.now) }
     requires fits { setting.now.below < 2 ^ 32 - 1 }
     ensures value { IfOk result (λ o. seen view o ≡ postfix_at setting.now tokens.now) }
     ensures height { IfOk result (HasHeights (setting.now.below + 1)) }
 {
-    let Some(first) = primary(&expr, &initializer, &body, alloc, setting, tokens)? else {
+    let Some(first) = primary(expr, initializer, body, alloc, setting, tokens)? else {
         return Ok(None);
     };
-    Ok(Some(behind_primary(&expr, alloc, setting, first)?))
+    Ok(Some(behind_primary(expr, alloc, setting, first)?))
 }
 
 // The selections behind a primary, and `++` and `--` behind them.
 fn behind_primary<'a, E: Fn(Place<'a>) -> Read<'a, Expr>>(
-    expr: E,
+    expr: &E,
     alloc: Global,
     setting: &Setting,
     primary: Found<'a, Expr>,
 ) -> Result<Found<'a, Expr>, Memory>
-    requires callable { E.IsAlwaysCallable expr }
-    requires reads { Reads setting.now (E.post expr) }
+    requires callable { E.IsAlwaysCallable expr.now }
+    requires reads { Reads setting.now (E.post expr.now) }
     requires fits { setting.now.below < 2 ^ 32 - 1 }
     requires right { IsRight (setting.now.below + 1) primary }
     ensures value { IfOk result (λ x. seen_found x
         ≡ behind_primary_at setting.now (view primary.entry.tree) primary.entry.rest.now) }
     ensures height { IfOk result (IsRight (setting.now.below + 1)) }
 {
-    let selected = selections(&expr, alloc, setting, primary)?;
+    let selected = selections(expr, alloc, setting, primary)?;
     increments(alloc, setting, selected)
 }
 
 // `"." id [Args]` and `"[" Expr "]"` behind a primary, as far as they go.
 #[tactic(auto, using(crate::proofs::SelectionTurns::selections_ends))]
 fn selections<'a, E: Fn(Place<'a>) -> Read<'a, Expr>>(
-    expr: E,
+    expr: &E,
     alloc: Global,
     setting: &Setting,
     primary: Found<'a, Expr>,
 ) -> Result<Found<'a, Expr>, Memory>
-    requires callable { E.IsAlwaysCallable expr }
-    requires reads { Reads setting.now (E.post expr) }
+    requires callable { E.IsAlwaysCallable expr.now }
+    requires reads { Reads setting.now (E.post expr.now) }
     requires fits { setting.now.below < 2 ^ 32 - 1 }
     requires right { IsRight (setting.now.below + 1) primary }
     ensures value { IfOk result (λ x. seen_found x ≡ selections_at setting.now
@@ -94,13 +94,13 @@ fn selections<'a, E: Fn(Place<'a>) -> Read<'a, Expr>>(
             return Ok(left);
         }
         if let Some((member, rest)) = selected(left.rest) {
-            left = member_of(&expr, alloc, setting, left, member, rest)?;
+            left = member_of(expr, alloc, setting, left, member, rest)?;
             continue;
         }
         if is_bare_creation(&left.tree) {
             return Ok(left);
         }
-        let Some(inside) = length(&expr, setting, left.rest)? else {
+        let Some(inside) = length(expr, setting, left.rest)? else {
             return Ok(left);
         };
         left = index(alloc, left, inside)?;
@@ -117,22 +117,22 @@ fn selected(tokens: &[Token]) -> Option<(Identifier, &[Token])>
 
 // A call of the member where its arguments can be read, and else its selection.
 fn member_of<'a, E: Fn(Place<'a>) -> Read<'a, Expr>>(
-    expr: E,
+    expr: &E,
     alloc: Global,
     setting: &Setting,
     left: Found<'a, Expr>,
     member: Identifier,
     tokens: &'a [Token],
 ) -> Result<Found<'a, Expr>, Memory>
-    requires callable { E.IsAlwaysCallable expr }
-    requires reads { Reads setting.now (E.post expr) }
+    requires callable { E.IsAlwaysCallable expr.now }
+    requires reads { Reads setting.now (E.post expr.now) }
     requires fits { setting.now.below < 2 ^ 32 - 1 }
     requires right { IsRight setting.now.below left }
     ensures value { IfOk result (λ x. seen_found x
         ≡ member_of_at setting.now (view left.entry.tree) member tokens.now) }
     ensures height { IfOk result (IsRight (setting.now.below + 1)) }
 {
-    match arguments(&expr, alloc, setting, tokens)? {
+    match arguments(expr, alloc, setting, tokens)? {
         Some(args) => call_on(alloc, left, member, args),
         None => select(alloc, left, member, tokens),
     }

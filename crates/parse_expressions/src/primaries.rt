@@ -35,37 +35,37 @@ pub fn primary<
     I: Fn(&'a [Token]) -> Read<'a, Expr>,
     B: Fn(&'a [Token]) -> ReadClosed<'a, Member>,
 >(
-    expr: E,
-    initializer: I,
-    body: B,
+    expr: &E,
+    initializer: &I,
+    body: &B,
     alloc: Global,
     setting: &Setting,
     tokens: &'a [Token],
 ) -> Read<'a, Expr>
-    requires callable { E.IsAlwaysCallable expr }
-    requires reads { Reads setting.now (E.post expr) }
-    requires initializer_callable { I.IsAlwaysCallable initializer }
-    requires initializer_reads { ReadsInitializers setting.now (I.post initializer) }
-    requires body_callable { B.IsAlwaysCallable body }
-    requires body_reads { ReadsBodies setting.now (B.post body) }
+    requires callable { E.IsAlwaysCallable expr.now }
+    requires reads { Reads setting.now (E.post expr.now) }
+    requires initializer_callable { I.IsAlwaysCallable initializer.now }
+    requires initializer_reads { ReadsInitializers setting.now (I.post initializer.now) }
+    requires body_callable { B.IsAlwaysCallable body.now }
+    requires body_reads { ReadsBodies setting.now (B.post body.now) }
     requires fits { setting.now.below < 2 ^ 32 - 1 }
     ensures value { IfOk result (λ o. seen view o ≡ primary_at setting.now tokens.now) }
     ensures height { IfOk result (HasHeights (setting.now.below + 1)) }
 {
     if is_identifier(tokens) {
-        return named(&expr, alloc, setting, tokens);
+        return named(expr, alloc, setting, tokens);
     }
     if is_symbol(tokens, Symbol::OpenParen) {
-        return parens(&expr, alloc, setting, tokens);
+        return parens(expr, alloc, setting, tokens);
     }
     if let Some(rest) = behind_word(tokens, Keyword::This) {
         return Ok(Some(this(tokens, rest)));
     }
     if is_word(tokens, Keyword::Super) {
-        return super_member(&expr, alloc, setting, tokens);
+        return super_member(expr, alloc, setting, tokens);
     }
     if is_word(tokens, Keyword::New) {
-        return creation(&expr, &initializer, &body, alloc, setting, tokens);
+        return creation(expr, initializer, body, alloc, setting, tokens);
     }
     literal(alloc, setting.texts, tokens)
 }
@@ -99,13 +99,13 @@ fn name_alone(name: Identifier, rest: &[Token]) -> Found<Expr>
 // `Name "." "this" | id [Args]`; `id` alone where the arguments can't be read.
 #[tactic(auto, unfolding(parse_laws::specs::way::Expressions::named_at))]
 fn named<'a, E: Fn(Place<'a>) -> Read<'a, Expr>>(
-    expr: E,
+    expr: &E,
     alloc: Global,
     setting: &Setting,
     tokens: &'a [Token],
 ) -> Read<'a, Expr>
-    requires callable { E.IsAlwaysCallable expr }
-    requires reads { Reads setting.now (E.post expr) }
+    requires callable { E.IsAlwaysCallable expr.now }
+    requires reads { Reads setting.now (E.post expr.now) }
     requires fits { setting.now.below < 2 ^ 32 - 1 }
     ensures value { IfOk result (λ o. seen view o ≡ named_at setting.now tokens.now) }
     ensures height { IfOk result (HasHeights (setting.now.below + 1)) }
@@ -116,7 +116,7 @@ fn named<'a, E: Fn(Place<'a>) -> Read<'a, Expr>>(
     let Some((method, rest)) = identifier(tokens) else {
         return Ok(None);
     };
-    let Some(args) = arguments(&expr, alloc, setting, rest)? else {
+    let Some(args) = arguments(expr, alloc, setting, rest)? else {
         return Ok(Some(name_alone(method, rest)));
     };
     Ok(Some(call(method, args)))
@@ -167,13 +167,13 @@ fn outer_this(alloc: Global, tokens: &[Token]) -> Read<Expr>
 // `"super" "." id [Args]`, without the arguments where they can't be read.
 #[tactic(auto, unfolding(parse_laws::specs::way::Expressions::super_member_at))]
 fn super_member<'a, E: Fn(Place<'a>) -> Read<'a, Expr>>(
-    expr: E,
+    expr: &E,
     alloc: Global,
     setting: &Setting,
     tokens: &'a [Token],
 ) -> Read<'a, Expr>
-    requires callable { E.IsAlwaysCallable expr }
-    requires reads { Reads setting.now (E.post expr) }
+    requires callable { E.IsAlwaysCallable expr.now }
+    requires reads { Reads setting.now (E.post expr.now) }
     requires fits { setting.now.below < 2 ^ 32 - 1 }
     ensures value { IfOk result (λ o. seen view o ≡ super_member_at setting.now tokens.now) }
     ensures height { IfOk result (HasHeights (setting.now.below + 1)) }
@@ -182,7 +182,7 @@ fn super_member<'a, E: Fn(Place<'a>) -> Read<'a, Expr>>(
         return Ok(None);
     };
     let word = first_span(tokens);
-    let Some(args) = arguments(&expr, alloc, setting, rest)? else {
+    let Some(args) = arguments(expr, alloc, setting, rest)? else {
         return Ok(Some(super_select(word, member, rest)));
     };
     Ok(Some(super_call(word, member, args)))
@@ -231,13 +231,13 @@ fn behind_super(tokens: &[Token]) -> Option<(Identifier, &[Token])>
 // `"(" Expr ")"`
 #[tactic(auto, unfolding(parse_laws::specs::way::Expressions::parens_at))]
 fn parens<'a, E: Fn(Place<'a>) -> Read<'a, Expr>>(
-    expr: E,
+    expr: &E,
     alloc: Global,
     setting: &Setting,
     tokens: &'a [Token],
 ) -> Read<'a, Expr>
-    requires callable { E.IsAlwaysCallable expr }
-    requires reads { Reads setting.now (E.post expr) }
+    requires callable { E.IsAlwaysCallable expr.now }
+    requires reads { Reads setting.now (E.post expr.now) }
     requires fits { setting.now.below < 2 ^ 32 - 1 }
     ensures value { IfOk result (λ o. seen view o ≡ parens_at setting.now tokens.now) }
     ensures height { IfOk result (HasHeights (setting.now.below + 1)) }

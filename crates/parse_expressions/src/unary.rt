@@ -22,28 +22,28 @@ pub fn unary<
     I: Fn(&'a [Token]) -> Read<'a, Expr>,
     B: Fn(&'a [Token]) -> ReadClosed<'a, Member>,
 >(
-    expr: E,
-    initializer: I,
-    body: B,
+    expr: &E,
+    initializer: &I,
+    body: &B,
     alloc: Global,
     setting: &Setting,
     tokens: &'a [Token],
 ) -> Read<'a, Expr>
-    requires callable { E.IsAlwaysCallable expr }
-    requires reads { Reads setting.now (E.post expr) }
-    requires initializer_callable { I.IsAlwaysCallable initializer }
-    requires initializer_reads { ReadsInitializers setting.now (I.post initializer) }
-    requires body_callable { B.IsAlwaysCallable body }
-    requires body_reads { ReadsBodies setting.now (B.post body) }
+    requires callable { E.IsAlwaysCallable expr.now }
+    requires reads { Reads setting.now (E.post expr.now) }
+    requires initializer_callable { I.IsAlwaysCallable initializer.now }
+    requires initializer_reads { ReadsInitializers setting.now (I.post initializer.now) }
+    requires body_callable { B.IsAlwaysCallable body.now }
+    requires body_reads { ReadsBodies setting.now (B.post body.now) }
     requires fits { setting.now.below < 2 ^ 32 - 1 }
     ensures value { IfOk result (λ o. seen view o ≡ unary_at setting.now tokens.now) }
     ensures height { IfOk result (HasHeights (setting.now.below + 1)) }
 {
     if let Some((op, rest)) = prefix_operator(tokens) {
-        return prefix(&expr, alloc, setting, op, first_span(tokens), rest);
+        return prefix(expr, alloc, setting, op, first_span(tokens), rest);
     }
     if is_cast(tokens) {
-        return cast(&expr, alloc, setting, tokens);
+        return cast(expr, alloc, setting, tokens);
     }
-    postfix(&expr, &initializer, &body, alloc, setting, tokens)
+    postfix(expr, initializer, body, alloc, setting, tokens)
 }

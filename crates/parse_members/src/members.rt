@@ -37,41 +37,41 @@ pub fn member<
     K: Fn(&'a [Token]) -> Read<'a, Block>,
     M: Fn(&'a [Token]) -> Read<'a, Member>,
 >(
-    expr: E,
-    initializer: I,
-    block_statement: B,
-    block: K,
-    member: M,
+    expr: &E,
+    initializer: &I,
+    block_statement: &B,
+    block: &K,
+    member: &M,
     alloc: Global,
     setting: &Setting,
     tokens: &'a [Token],
 ) -> Read<'a, Member>
-    requires callable { E.IsAlwaysCallable expr }
-    requires reads { Reads setting.now (E.post expr) }
-    requires callable_initializer { I.IsAlwaysCallable initializer }
-    requires reads_initializer { ReadsInitializers setting.now (I.post initializer) }
-    requires callable_statements { B.IsAlwaysCallable block_statement }
-    requires reads_statements { ReadsBlockStatements setting.now (B.post block_statement) }
-    requires callable_blocks { K.IsAlwaysCallable block }
-    requires reads_blocks { ReadsBlocks setting.now (K.post block) }
-    requires callable_members { M.IsAlwaysCallable member }
-    requires reads_members { ReadsMembers setting.now (M.post member) }
+    requires callable { E.IsAlwaysCallable expr.now }
+    requires reads { Reads setting.now (E.post expr.now) }
+    requires callable_initializer { I.IsAlwaysCallable initializer.now }
+    requires reads_initializer { ReadsInitializers setting.now (I.post initializer.now) }
+    requires callable_statements { B.IsAlwaysCallable block_statement.now }
+    requires reads_statements { ReadsBlockStatements setting.now (B.post block_statement.now) }
+    requires callable_blocks { K.IsAlwaysCallable block.now }
+    requires reads_blocks { ReadsBlocks setting.now (K.post block.now) }
+    requires callable_members { M.IsAlwaysCallable member.now }
+    requires reads_members { ReadsMembers setting.now (M.post member.now) }
     requires room { setting.now.below + 1 < 2 ^ 32 }
     ensures value { IfOk result (λ o. seen member_view o ≡ member_layer setting.now tokens.now) }
     ensures height { IfOk result (MemberHasHeight (setting.now.below + 1)) }
 {
     if begins_initializer(tokens) {
-        return initializer_block(&block, setting, tokens);
+        return initializer_block(block, setting, tokens);
     }
     let (modifiers, rest) = modifiers(alloc, setting.names, tokens)?;
     let first = first_span(tokens);
     if begins_declared(rest) {
-        return Ok(as_member(declared(&member, alloc, setting, modifiers, first, rest)?));
+        return Ok(as_member(declared(member, alloc, setting, modifiers, first, rest)?));
     }
     if begins_constructor(rest) {
         return constructor(
-            &expr,
-            &block_statement,
+            expr,
+            block_statement,
             alloc,
             setting,
             modifiers,
@@ -80,9 +80,9 @@ pub fn member<
         );
     }
     if begins_method(rest, setting.below) {
-        return method(&block, alloc, setting, modifiers, first, rest);
+        return method(block, alloc, setting, modifiers, first, rest);
     }
-    field(&initializer, alloc, setting, modifiers, first, rest)
+    field(initializer, alloc, setting, modifiers, first, rest)
 }
 
 // A type declaration as a member.

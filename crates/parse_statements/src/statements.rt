@@ -35,25 +35,25 @@ pub fn statement<
     B: Fn(&'a [Token]) -> Read<'a, Stmt>,
     K: Fn(&'a [Token]) -> Read<'a, Block>,
 >(
-    expr: E,
-    initializer: I,
-    stmt: S,
-    block_statement: B,
-    block: K,
+    expr: &E,
+    initializer: &I,
+    stmt: &S,
+    block_statement: &B,
+    block: &K,
     alloc: Global,
     setting: &Setting,
     tokens: &'a [Token],
 ) -> Read<'a, Stmt>
-    requires expr_callable { E.IsAlwaysCallable expr }
-    requires expr_reads { Reads setting.now (E.post expr) }
-    requires initializer_callable { I.IsAlwaysCallable initializer }
-    requires initializer_reads { ReadsInitializers setting.now (I.post initializer) }
-    requires stmt_callable { S.IsAlwaysCallable stmt }
-    requires stmt_reads { ReadsStatements setting.now (S.post stmt) }
-    requires block_statement_callable { B.IsAlwaysCallable block_statement }
-    requires block_statement_reads { ReadsBlockStatements setting.now (B.post block_statement) }
-    requires block_callable { K.IsAlwaysCallable block }
-    requires block_reads { ReadsBlocks setting.now (K.post block) }
+    requires expr_callable { E.IsAlwaysCallable expr.now }
+    requires expr_reads { Reads setting.now (E.post expr.now) }
+    requires initializer_callable { I.IsAlwaysCallable initializer.now }
+    requires initializer_reads { ReadsInitializers setting.now (I.post initializer.now) }
+    requires stmt_callable { S.IsAlwaysCallable stmt.now }
+    requires stmt_reads { ReadsStatements setting.now (S.post stmt.now) }
+    requires block_statement_callable { B.IsAlwaysCallable block_statement.now }
+    requires block_statement_reads { ReadsBlockStatements setting.now (B.post block_statement.now) }
+    requires block_callable { K.IsAlwaysCallable block.now }
+    requires block_reads { ReadsBlocks setting.now (K.post block.now) }
     requires room { setting.now.below + 1 < 2 ^ 32 }
     ensures value { IfOk result (λ o. seen statement_view o
         ≡ statement_layer setting.now tokens.now) }
@@ -65,34 +65,30 @@ pub fn statement<
     let first = token.span;
     match token.kind {
         TokenKind::Symbol(Symbol::OpenBrace) => {
-            inner_block(&block_statement, alloc, setting, tokens)
+            inner_block(block_statement, alloc, setting, tokens)
         }
         TokenKind::Symbol(Symbol::Semicolon) => Ok(Some(Found {
             tree: empty(first),
             height: 1,
             rest,
         })),
-        TokenKind::Keyword(Keyword::If) => {
-            if_statement(&expr, &stmt, alloc, setting, first, rest)
-        }
+        TokenKind::Keyword(Keyword::If) => { if_statement(expr, stmt, alloc, setting, first, rest) }
         TokenKind::Keyword(Keyword::While) => {
-            while_statement(&expr, &stmt, alloc, setting, first, rest)
+            while_statement(expr, stmt, alloc, setting, first, rest)
         }
-        TokenKind::Keyword(Keyword::Do) => {
-            do_statement(&expr, &stmt, alloc, setting, first, rest)
-        }
+        TokenKind::Keyword(Keyword::Do) => { do_statement(expr, stmt, alloc, setting, first, rest) }
         TokenKind::Keyword(Keyword::For) => {
-            for_statement(&expr, &initializer, &stmt, alloc, setting, first, rest)
+            for_statement(expr, initializer, stmt, alloc, setting, first, rest)
         }
         TokenKind::Keyword(Keyword::Switch) => {
-            switch_statement(&expr, &block_statement, alloc, setting, first, rest)
+            switch_statement(expr, block_statement, alloc, setting, first, rest)
         }
         TokenKind::Keyword(Keyword::Break) => Ok(break_statement(setting, first, rest)),
         TokenKind::Keyword(Keyword::Continue) => Ok(continue_statement(setting, first, rest)),
-        TokenKind::Keyword(Keyword::Return) => return_statement(&expr, setting, first, rest),
-        TokenKind::Keyword(Keyword::Throw) => throw_statement(&expr, setting, first, rest),
-        TokenKind::Keyword(Keyword::Try) => try_statement(&block, alloc, setting, first, rest),
-        _ => label_or_step(&expr, &stmt, alloc, setting, tokens),
+        TokenKind::Keyword(Keyword::Return) => return_statement(expr, setting, first, rest),
+        TokenKind::Keyword(Keyword::Throw) => throw_statement(expr, setting, first, rest),
+        TokenKind::Keyword(Keyword::Try) => try_statement(block, alloc, setting, first, rest),
+        _ => label_or_step(expr, stmt, alloc, setting, tokens),
     }
 }
 

@@ -69,8 +69,8 @@ module _ (p : CoreProgram) (body : Body) (final : StaticsAreFinal p) (later : st
     expression _ (fits.index a h i k) = both (expression _ a) (expression _ i)
     expression _ (fits.length_of a h) = expression _ a
     expression _ (fits.assign {place = to} {form = form} {t = t} {span' = span} {at' = at} same q is value h k) = both (place to form t span at same q is) (both (expression _ q) (expression _ value))
-    expression _ (fits.step {place = to} {form = form} {t = t} {span' = span} {at' = at} same q is h k) = both (place to form t span at same q is) (both (expression _ q) refl)
-    expression _ (fits.update {place = to} {form = form} {t = t} {span' = span} {at' = at} same q is operand h) = both (place to form t span at same q is) (both (expression _ q) (expression _ operand))
+    expression _ (fits.step {place = to} {form = form} {t = t} {span' = span} {at' = at} same q is back h k) = both (place to form t span at same q is) (both (expression _ q) refl)
+    expression _ (fits.update {place = to} {form = form} {t = t} {span' = span} {at' = at} same q is back operand h) = both (place to form t span at same q is) (both (expression _ q) (expression _ operand))
     expression _ (fits.unary e h) = expression _ e
     expression _ (fits.binary l r h) = both (expression _ l) (expression _ r)
     expression _ (fits.and l r h k) = both (expression _ l) (expression _ r)

@@ -6,7 +6,7 @@ ghost use Rattle.planned_faults.specs.Plan.{after_call, FailsNext};
 use std::marker::Model;
 
 /// The numbers, from 1, of the calls that are to fail, and how many calls were made: at most the greatest u64.
-#[derive(Debug, Drop)]
+#[derive(Drop)]
 pub struct Calls {
     to_fail: Vec<u64>,
     made: u64,

@@ -14,7 +14,7 @@ use je_table::LibraryClass;
 use std::alloc::Global;
 
 /// A checked exception of this class, or of one below it, may be thrown at a token.
-#[derive(Clone, Copy, PartialEq, Eq, Debug)]
+#[derive(Clone, Copy, PartialEq, Eq)]
 pub struct Throw {
     pub class: ClassId,
     pub at: Span,

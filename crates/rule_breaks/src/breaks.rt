@@ -10,7 +10,7 @@ use je_base::Span;
 use std::cmp::Ordering;
 
 /// A rule that is broken, and the place. Breaks are ordered by place, and at one place by the rule's number.
-#[derive(Clone, Copy, Debug)]
+#[derive(Clone, Copy)]
 pub struct Break {
     pub rule: ConfinementRule,
     pub span: Span,

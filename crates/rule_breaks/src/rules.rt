@@ -4,7 +4,7 @@ ghost use Rattle.std.specs.Prelude.{◌≡◌};
 ghost use Rattle.rule_breaks.specs.Breaks.{number_of};
 
 /// A rule of Joe-E, by the order in which a report names those that are broken at one place.
-#[derive(Clone, Copy, PartialEq, Eq, Debug)]
+#[derive(Clone, Copy, PartialEq, Eq)]
 pub enum ConfinementRule {
     /// A class variable isn't final, or its type isn't powerless.
     StaticField,

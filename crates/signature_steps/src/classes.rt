@@ -95,6 +95,7 @@ fn judge_inherited(
         around.program.alloc,
         around.heads,
         setting.classes,
+        class,
         inherited,
         span,
     )
@@ -143,7 +144,7 @@ fn judge_body(
     let alloc = setting.around.program.alloc;
     let heads = setting.around.heads;
     let inherited = hierarchy.inherited(alloc, heads, setting.classes, class)?;
-    judge_members(setting, class, &inherited, members)?;
+    judge_members(setting, class, members)?;
     judge_whole(setting, class, &inherited, span)
 }
 

@@ -10,7 +10,7 @@ ghost use Rattle.je_typing.specs.Answers.{IsFault};
 ghost use Rattle.je_typing.specs.declared.fault.Refusal.TheVariants.{Memory};
 ghost use Rattle.je_typing.specs.Judged.{gives};
 ghost use Rattle.name_lookup.specs.View.{part_view};
-ghost use Rattle.overriding.specs.Methods.{inherited as the_inherited, own_from};
+ghost use Rattle.overriding.specs.Methods.{own_from};
 ghost use Rattle.signature_steps.specs.Signed.{constructor_of, initializer_of, method_of};
 ghost use Rattle.signature_steps.specs.View.{is_among, setting_of};
 ghost use Rattle.signature_typing.specs.Signatures as words;
@@ -137,15 +137,12 @@ fn judge_method(
     setting: Setting,
     class: ClassId,
     earlier: &[Method],
-    inherited: &[Method],
     signature: Signature,
     name: Identifier,
     member: &Member,
 ) -> Result<(), Refusal>
-    requires earlier { map method_seen earlier.now ≡ own_from class.0 0
+    requires { map method_seen earlier.now ≡ own_from class.0 0
         (take signature.at (words.own_methods (setting_of setting) class.0)) }
-    requires inherited { map method_seen inherited.now ≡ the_inherited
-        (setting_of setting).heads (setting_of setting).classes class.0 }
     ensures ok { IfOk result (λ done. method_of (setting_of setting.entry) class.0
         signature.entry name (member_node_view member.now) ≡ gives done) }
     ensures err { IfErr result (IsFault (method_of (setting_of setting.entry) class.0
@@ -153,7 +150,7 @@ fn judge_method(
 {
     judge_signature(setting, class, signature)?;
     judge_body(setting, class, member)?;
-    judge_overrides(setting, class, earlier, inherited, signature.at)?;
+    judge_overrides(setting, class, earlier, signature.at)?;
     static_method(is_in_inner(setting, class), signature.modifiers, name)
 }
 
@@ -196,34 +193,28 @@ fn judge_member(
     setting: Setting,
     class: ClassId,
     earlier: &[Method],
-    inherited: &[Method],
     at: usize,
     member: &Member,
 ) -> Result<(), Refusal>
-    requires earlier { map method_seen earlier.now ≡
+    requires { map method_seen earlier.now ≡
         own_from class.0 0 (take at (words.own_methods (setting_of setting) class.0)) }
-    requires inherited { map method_seen inherited.now ≡ the_inherited
-        (setting_of setting).heads (setting_of setting).classes class.0 }
     ensures ok { IfOk result (λ done. words.judged_member (setting_of setting.entry) class.0 at
         (member_view member.now) ≡ gives done) }
     ensures err { IfErr result (IsFault (words.judged_member (setting_of setting.entry) class.0 at
         (member_view member.now))) }
 {
-    judge_member_here(setting, class, earlier, inherited, at, member)
+    judge_member_here(setting, class, earlier, at, member)
 }
 
 fn judge_member_here(
     setting: Setting,
     class: ClassId,
     earlier: &[Method],
-    inherited: &[Method],
     at: usize,
     member: &Member,
 ) -> Result<(), Refusal>
-    requires earlier { map method_seen earlier.now ≡
+    requires { map method_seen earlier.now ≡
         own_from class.0 0 (take at (words.own_methods (setting_of setting) class.0)) }
-    requires inherited { map method_seen inherited.now ≡ the_inherited
-        (setting_of setting).heads (setting_of setting).classes class.0 }
     ensures ok { IfOk result (λ done. words.judged_member (setting_of setting.entry) class.0 at
         (member_node_view member.now) ≡ gives done) }
     ensures err { IfErr result (IsFault (words.judged_member (setting_of setting.entry) class.0 at
@@ -254,7 +245,7 @@ fn judge_member_here(
                 formals,
                 throws,
             };
-            judge_method(setting, class, earlier, inherited, signature, *name, member)
+            judge_method(setting, class, earlier, signature, *name, member)
         }
         Member::Constructor {
             modifiers,
@@ -313,16 +304,9 @@ fn next_place<'a>(
     Ok(at + 1)
 }
 
-/// The members of a class, which inherits these methods.
+/// The members of a class.
 #[tactic(auto, using(je_typing::proofs::Walks::walks))]
-pub fn judge_members(
-    setting: Setting,
-    class: ClassId,
-    inherited: &[Method],
-    members: &[Member],
-) -> Result<(), Refusal>
-    requires { map method_seen inherited.now ≡ the_inherited
-        (setting_of setting).heads (setting_of setting).classes class.0 }
+pub fn judge_members(setting: Setting, class: ClassId, members: &[Member]) -> Result<(), Refusal>
     ensures ok { IfOk result (λ done. words.members_from (setting_of setting.entry) class.0 0
         (member_views_of members.now) ≡ gives done) }
     ensures err { IfErr result (IsFault (words.members_from (setting_of setting.entry) class.0 0
@@ -331,7 +315,7 @@ pub fn judge_members(
     let mut at = 0;
     let mut earlier = Vec::new(setting.around.program.alloc);
     for member in members {
-        judge_member(setting, class, &earlier, inherited, at, member)?;
+        judge_member(setting, class, &earlier, at, member)?;
         at = next_place(setting, class, member, at, &mut earlier)?;
     }
     Ok(())

@@ -9,8 +9,8 @@ ghost use Rattle.je_typing.specs.declared.fault.Refusal.TheVariants.{Memory};
 ghost use Rattle.je_typing.specs.Judged.{gives};
 ghost use Rattle.name_lookup.specs.View.{part_view};
 ghost use Rattle.name_types.specs.View.{shown};
-ghost use Rattle.overriding.specs.Methods.{inherited as the_inherited, own_from};
-ghost use Rattle.overriding.specs.Overrides.{no_clash as the_no_clash, own_before};
+ghost use Rattle.overriding.specs.Methods.{own_from};
+ghost use Rattle.overriding.specs.Overrides.{own_before};
 ghost use Rattle.signature_steps.specs.Signed.{override_of, signature_of};
 ghost use Rattle.signature_steps.specs.View.{setting_of};
 ghost use Rattle.signature_typing.specs.Signatures as words;
@@ -26,7 +26,7 @@ use je_typing::Refusal;
 use member_rules::Declared;
 use name_lookup::{Part, Place};
 use name_types::SrcTy;
-use override_steps::{good_override, no_clash, no_constructor_clash};
+use override_steps::{good_method, no_constructor_clash};
 use written_types::{judge_formal, judge_optional_type};
 
 /// A method or a constructor as it is written before its body, and its place among those of its class.
@@ -132,54 +132,24 @@ pub fn judge_signature(
     judge_throws_at(setting, class, signature.at, signature.throws)
 }
 
-// Whether a method clashes with one that stands before it, or that its class inherits.
-#[tactic(auto, unfolding(overriding::specs::Overrides::no_clash), using(class_methods::proofs::Lists::appended))]
-fn judge_clash(
-    setting: Setting,
-    earlier: &[Method],
-    inherited: &[Method],
-    method: &Method,
-) -> Result<(), Refusal>
-    requires earlier { map method_seen earlier.now ≡
-        own_before (setting_of setting).classes (method_seen method.now) }
-    requires inherited { map method_seen inherited.now ≡ the_inherited
-        (setting_of setting).heads (setting_of setting).classes method.now.holder.0 }
-    ensures ok { IfOk result (λ done. the_no_clash (setting_of setting.entry).heads
-        (setting_of setting.entry).classes (method_seen method.now) ≡ gives done) }
-    ensures err { IfErr result (IsFault (the_no_clash (setting_of setting.entry).heads
-        (setting_of setting.entry).classes (method_seen method.now))) }
-{
-    let around = setting.around;
-    no_clash(
-        around.program.alloc,
-        around.heads,
-        setting.classes,
-        earlier,
-        inherited,
-        method,
-    )
-}
-
 // What is asked of a method that a class declares behind `earlier`.
-#[tactic(auto, using(je_typing::proofs::Walks::walks))]
-fn judge_override(
-    setting: Setting,
-    earlier: &[Method],
-    inherited: &[Method],
-    method: &Method,
-) -> Result<(), Refusal>
-    requires earlier { map method_seen earlier.now ≡
+#[tactic(auto, unfolding(overriding::specs::Overrides::no_clash), using(je_typing::proofs::Walks::walks))]
+fn judge_override(setting: Setting, earlier: &[Method], method: &Method) -> Result<(), Refusal>
+    requires { map method_seen earlier.now ≡
         own_before (setting_of setting).classes (method_seen method.now) }
-    requires inherited { map method_seen inherited.now ≡ the_inherited
-        (setting_of setting).heads (setting_of setting).classes method.now.holder.0 }
     ensures ok { IfOk result (λ done. override_of (setting_of setting.entry)
         (method_seen method.now) ≡ gives done) }
     ensures err { IfErr result (IsFault (override_of (setting_of setting.entry)
         (method_seen method.now))) }
 {
     let around = setting.around;
-    good_override(around.program.alloc, around.heads, setting.classes, method)?;
-    judge_clash(setting, earlier, inherited, method)
+    good_method(
+        around.program.alloc,
+        around.heads,
+        setting.classes,
+        earlier,
+        method,
+    )
 }
 
 /// What is asked of a method at a place among those of its class, of which `earlier` stand before it.
@@ -188,13 +158,10 @@ pub fn judge_overrides(
     setting: Setting,
     class: ClassId,
     earlier: &[Method],
-    inherited: &[Method],
     at: usize,
 ) -> Result<(), Refusal>
-    requires earlier { map method_seen earlier.now ≡
+    requires { map method_seen earlier.now ≡
         own_from class.0 0 (take at (words.own_methods (setting_of setting) class.0)) }
-    requires inherited { map method_seen inherited.now ≡ the_inherited
-        (setting_of setting).heads (setting_of setting).classes class.0 }
     ensures ok { IfOk result (λ done. words.method_at (setting_of setting.entry) class.0 at
         (slice_get (words.own_methods (setting_of setting.entry) class.0) at) ≡ gives done) }
     ensures err { IfErr result (IsFault (words.method_at (setting_of setting.entry) class.0 at
@@ -204,7 +171,7 @@ pub fn judge_overrides(
         None => Ok(()),
         Some(declared) => {
             let method = own_method(setting.around.program.alloc, class, at, declared)?;
-            judge_override(setting, earlier, inherited, &method)
+            judge_override(setting, earlier, &method)
         }
     }
 }

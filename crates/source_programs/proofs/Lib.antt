@@ -1,3 +1,4 @@
 pub mod Phases
 pub mod Library
 pub mod OneProgram
+pub mod OneFinding

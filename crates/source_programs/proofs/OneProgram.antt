@@ -14,10 +14,10 @@ use Rattle.source_units.proofs.OneAnswer.{units_are_one, units_or_fault}
 use Rattle.source_programs.specs.Findings.{ComesTo, IsFirst, IsFirstFinding, IsProgramOf, in_flow, in_names, in_text, in_types, in_units, words}
 use Rattle.source_programs.specs.Laws.{OneProgram, ProgramOrFinding}
 
-same_source : (us vs : List CompilationUnit) (names names1 : List (List ℕ)) → us ≡ vs → names ≡ names1 → source names us ≡ source names1 vs
+pub same_source : (us vs : List CompilationUnit) (names names1 : List (List ℕ)) → us ≡ vs → names ≡ names1 → source names us ≡ source names1 vs
 same_source us vs names names1 u n = ap (λ ns. source ns us) n ∙ ap (source names1) u
 
-given : (p : Source) (c d : CoreProgram) → elaborated p ≡ gives c → elaborated p ≡ gives d → c ≡ d
+pub given : (p : Source) (c d : CoreProgram) → elaborated p ≡ gives c → elaborated p ≡ gives d → c ≡ d
 given p c d e g =
     let same : gives c ≡ gives d = sym e ∙ g in
     cc

@@ -7,7 +7,7 @@ use je_types::CheckFault;
 use source_units::Refusal;
 
 /// Why sources are refused.
-#[derive(Clone, Copy, PartialEq, Eq, Debug)]
+#[derive(Clone, Copy, PartialEq, Eq)]
 pub enum FrontFault {
     /// Want of memory.
     Memory,

@@ -20,3 +20,9 @@ pub fn units_or_fault()
         (names : List (List ℕ)) (fault : Finding) →
         AreUnitsOf files before units names → ¬ IsFirstFault files fault }
 {}
+
+/// Files have one first fault at most.
+pub fn fault_is_one()
+    ensures { (files : List (List ℕ)) (fault fault1 : Finding) →
+        IsFirstFault files fault → IsFirstFault files fault1 → fault ≡ fault1 }
+{}

@@ -4,7 +4,7 @@
 //! fault of the first of these phases that finds one. Each file is read with names of its own; the
 //! units that are answered have the numbers of one list, in which the names of all files stand once
 //! each (`specs/Units.antt`). A fault is a `Finding`, and `IsFirstFault` of `specs/Faults.antt` says
-//! which. The answer is the only one (`units_are_one`, `units_or_fault`).
+//! which. The answer is the only one (`units_are_one`, `units_or_fault`, `fault_is_one`).
 #![tactic(auto)]
 
 mod laws;
@@ -15,7 +15,7 @@ mod reading;
 mod refusal;
 mod units;
 
-pub use laws::{units_are_one, units_or_fault};
+pub use laws::{fault_is_one, units_are_one, units_or_fault};
 pub use reading::read_units;
 pub use refusal::Refusal;
 pub use units::SourceUnits;

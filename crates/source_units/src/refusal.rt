@@ -5,7 +5,7 @@ use je_base::Memory;
 use std::alloc::AllocFailed;
 
 /// Why files have no units.
-#[derive(Clone, Copy, PartialEq, Eq, Debug)]
+#[derive(Clone, Copy, PartialEq, Eq)]
 pub enum Refusal {
     /// Want of memory.
     Memory,

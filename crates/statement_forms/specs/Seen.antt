@@ -20,10 +20,10 @@ use Rattle.statement_forms.specs.declared.switches.Groups.{Groups}
 use Rattle.statement_forms.specs.declared.walk.Walk.{Walk}
 
 abbrev pub program_of : Walk → Program
-program_of w = program_in w.bodies
+program_of w = program_in w.bodies.now
 
 abbrev pub known_of : Walk → Known
-known_of w = known_in w.bodies
+known_of w = known_in w.bodies.now
 
 abbrev pub returning_of : Walk → Returning
 returning_of w = returning_seen w.returning

@@ -47,13 +47,14 @@ pub fn add_element(
         (the_local_of head.entry.name.name (shown ty.now) head.entry.is_final (local + 2) None)
         (scope_seen scope.old)) }
     ensures progress { OnOk result (progress_seen progress.new ≡ with_number
-        (heads_of walk.entry.bodies.calls.program.heads.now) head.entry.name.name (shown ty.now)
+        (heads_of walk.entry.bodies.now.calls.program.heads.now) head.entry.name.name (shown ty.now)
         head.entry.is_final head.entry.name.span (with_hidden (program_of walk.entry)
         (known_of walk.entry) (returning_of walk.entry) (span_of (view head.entry.array.now))
         (seen array.now) (progress_seen progress.old))) }
 {
     let name = head.name;
-    let heads = walk.bodies.calls.program.heads;
+    let bodies = walk.bodies;
+    let heads = bodies.calls.program.heads;
     add_hidden(walk, progress, span(head.array), array)?;
     add_number(heads, progress, name.name, ty, head.is_final, name.span)?;
     let variable = local_of(alloc(walk), name.name, ty, head.is_final, local + 2, None)?;

@@ -47,7 +47,8 @@ pub fn add_hidden(
         (known_of walk.entry) (returning_of walk.entry) at (seen array.now)
         (progress_seen progress.old)) }
 {
-    let heads = walk.bodies.calls.program.heads;
+    let bodies = walk.bodies;
+    let heads = bodies.calls.program.heads;
     add_number(heads, progress, walk.no_name, &array.ty, false, at)?;
     add_number(
         heads,

@@ -12,13 +12,14 @@ use std::alloc::Global;
 /// What the statements of a body are judged by, what the body returns, and the name of a local that no source names.
 #[derive(Clone, Copy)]
 pub struct Walk<'a> {
-    pub bodies: Bodies<'a>,
+    pub bodies: &'a Bodies<'a>,
     pub returning: Returning<'a>,
     pub no_name: NameId,
-    ghost empty: { no_name ≡ nameless (program_seen bodies.calls.program) },
+    ghost empty: { no_name ≡ nameless (program_seen bodies.now.calls.program) },
 }
 
 /// Where the nodes of a walk are made.
 pub fn alloc(walk: Walk) -> Global {
-    walk.bodies.calls.program.source.alloc
+    let bodies = walk.bodies;
+    bodies.calls.program.source.alloc
 }

@@ -14,7 +14,7 @@ use je_heap::Heap;
 use je_table::CostKind;
 
 /// What the payment for a member comes to.
-#[derive(Clone, Copy, PartialEq, Eq, Debug)]
+#[derive(Clone, Copy, PartialEq, Eq)]
 pub enum Paid {
     /// Its cost is taken from the units left.
     Done,

@@ -6,7 +6,7 @@ ghost use Rattle.taming_db.specs.Markers as words;
 use je_table::marker;
 
 /// A marker: what a type promises of its objects.
-#[derive(Clone, Copy, Debug, PartialEq, Eq)]
+#[derive(Clone, Copy, PartialEq, Eq)]
 pub enum Marker {
     /// Nothing that an object of the type reaches can change.
     Immutable,

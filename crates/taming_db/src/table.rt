@@ -3,7 +3,7 @@
 use crate::marker::Marker;
 
 /// A table of the right shape: what it says of the class that it names.
-#[derive(Debug, Drop)]
+#[derive(Drop)]
 pub(crate) struct Table {
     /// The full name of a class.
     pub(crate) name: String,

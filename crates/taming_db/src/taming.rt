@@ -7,14 +7,14 @@ ghost use Rattle.taming_db.specs.Tame.{enable_tame};
 use crate::marker::Marker;
 
 /// What a taming text says of each class that it names. Places are those in `CLASSES` and `LIBRARY`.
-#[derive(Debug, Drop)]
+#[derive(Drop)]
 pub struct Taming {
     pub(crate) rows: Vec<Row>,
     pub ghost tame: { enable_tame (map row_view rows.items) ≡ true },
 }
 
 /// What a table says.
-#[derive(Debug, Drop)]
+#[derive(Drop)]
 pub(crate) struct Row {
     /// The place of its class.
     pub(crate) class: usize,

@@ -33,7 +33,7 @@ pub fn body_statements<'a>(
     progress: &mut Progress<'a>,
     list: &'a [Stmt],
 ) -> Result<Done, Refusal>
-    requires { HasAllMethods walk.bodies }
+    requires { HasAllMethods walk.bodies.now }
     ensures ok { IfOk result (λ d. the_statements (program_of walk.entry) (known_of walk.entry)
         (returning_seen returning.entry) the_no_targets (scope_seen scope.old)
         (progress_seen progress.old) (statement_views_of list.now)
@@ -59,7 +59,7 @@ pub fn body_if<'a>(
     progress: &mut Progress<'a>,
     body: &'a Option<Block>,
 ) -> Result<Option<Code>, Refusal>
-    requires { HasAllMethods walk.bodies }
+    requires { HasAllMethods walk.bodies.now }
     ensures ok { IfOk result (λ b. the_body_if walk.entry (returning_seen returning.entry)
         (begun (scope_seen scope.old) (progress_seen progress.old)) (block_view_of_option body.now)
         ≡ gives (body_done (option_map stmt_view b) (progress_seen progress.new))) }

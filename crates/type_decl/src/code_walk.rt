@@ -40,8 +40,8 @@ pub struct WholeWalk<'a> {
 }
 
 // The locals that a class captures.
-fn captured_by<'a>(walk: Walk<'a>, class: ClassId) -> &'a [CapturedLocal]
-    ensures { map captured_local_seen result.now ≡ captured_of walk.entry class.0 }
+fn captured_by<'a>(walk: &Walk<'a>, class: ClassId) -> &'a [CapturedLocal]
+    ensures { map captured_local_seen result.now ≡ captured_of walk.now class.0 }
 {
     match walk.bodies.known.captured.get(class.0 as usize) {
         Some(locals) => locals,
@@ -50,25 +50,25 @@ fn captured_by<'a>(walk: Walk<'a>, class: ClassId) -> &'a [CapturedLocal]
 }
 
 // The fields of a class that a source writes.
-fn written_fields<'a>(whole: WholeWalk<'a>, class: ClassId) -> &'a [FieldDecl]
-    requires { IsWhole (program_in whole.walk.bodies).source whole }
-    ensures { map field_shown result.now ≡ the_written_fields (program_in whole.entry.walk.bodies)
-        (captured_of whole.entry.walk) class.0 }
+fn written_fields<'a>(whole: &WholeWalk<'a>, class: ClassId) -> &'a [FieldDecl]
+    requires { IsWhole (program_in whole.now.walk.bodies).source whole.now }
+    ensures { map field_shown result.now ≡ the_written_fields (program_in whole.now.walk.bodies)
+        (captured_of whole.now.walk) class.0 }
 {
-    let walk = whole.walk;
+    let walk = &whole.walk;
     let fields = fields_of(walk.bodies.calls.program.classes, class);
     let hidden = count_of(walk.hidden, class.0 as usize).min(fields.len());
     &fields[hidden..]
 }
 
 // The class of the core program, of what its members come to.
-fn made(whole: WholeWalk, class: ClassId, done: MembersDone) -> Result<Class, Memory>
-    requires whole { IsWhole (program_in whole.walk.bodies).source whole }
-    requires there { class.0 < length (program_in whole.walk.bodies).source.sites }
-    ensures { IfOk result (λ k. class_view k ≡ the_core_class (program_in whole.entry.walk.bodies)
-        (captured_of whole.entry.walk) class.0 (members_seen done.entry)) }
+fn made(whole: &WholeWalk, class: ClassId, done: MembersDone) -> Result<Class, Memory>
+    requires whole { IsWhole (program_in whole.now.walk.bodies).source whole.now }
+    requires there { class.0 < length (program_in whole.now.walk.bodies).source.sites }
+    ensures { IfOk result (λ k. class_view k ≡ the_core_class (program_in whole.now.walk.bodies)
+        (captured_of whole.now.walk) class.0 (members_seen done.entry)) }
 {
-    let walk = whole.walk;
+    let walk = &whole.walk;
     let program = walk.bodies.calls.program;
     let alloc = alloc(walk);
     let nth = counted(count_of(whole.numbers, class.0 as usize))?;
@@ -104,39 +104,44 @@ fn made(whole: WholeWalk, class: ClassId, done: MembersDone) -> Result<Class, Me
 
 // One class.
 #[tactic(auto, using(je_typing::proofs::Walks::walks))]
-fn class_at(whole: WholeWalk, sites: &Sites, all: &AllMet, class: ClassId) -> Result<Class, Refusal>
-    requires whole { IsWhole (source_of sites.now) whole }
+fn class_at(
+    whole: &WholeWalk,
+    sites: &Sites,
+    all: &AllMet,
+    class: ClassId,
+) -> Result<Class, Refusal>
+    requires whole { IsWhole (source_of sites.now) whole.now }
     requires placed { ArePlaced (source_of sites.now).sites all.now }
     requires there { class.0 < length (source_of sites.now).sites }
-    ensures ok { IfOk result (λ k. the_made (source_of sites.now) (world_of whole.entry.walk)
-        (captured_of whole.entry.walk) (map met_seen all.now.met.items) class.0 ≡
+    ensures ok { IfOk result (λ k. the_made (source_of sites.now) (world_of whole.now.walk)
+        (captured_of whole.now.walk) (map met_seen all.now.met.items) class.0 ≡
         gives (class_view k)) }
-    ensures err { IfErr result (IsFault (the_made (source_of sites.now) (world_of whole.entry.walk)
-        (captured_of whole.entry.walk) (map met_seen all.now.met.items) class.0)) }
+    ensures err { IfErr result (IsFault (the_made (source_of sites.now) (world_of whole.now.walk)
+        (captured_of whole.now.walk) (map met_seen all.now.met.items) class.0)) }
 {
-    let done = members(whole.walk, sites, all, class)?;
+    let done = members(&whole.walk, sites, all, class)?;
     Ok(made(whole, class, done)?)
 }
 
 /// The classes of the core program that a program writes, behind what was met in the bodies of all.
 #[tactic(auto, using(je_typing::proofs::Walks::walks))]
 pub fn core_classes(
-    whole: WholeWalk,
+    whole: &WholeWalk,
     sites: &Sites,
     all: &AllMet,
     library: usize,
 ) -> Result<Vec<Class>, Refusal>
-    requires whole { IsWhole (source_of sites.now) whole }
+    requires whole { IsWhole (source_of sites.now) whole.now }
     requires placed { ArePlaced (source_of sites.now).sites all.now }
     requires library { library ≡ library_count (source_of sites.now) }
     ensures ok { IfOk result (λ ks. the_core_classes (source_of sites.now)
-        (world_of whole.entry.walk) (captured_of whole.entry.walk) (map met_seen all.now.met.items)
+        (world_of whole.now.walk) (captured_of whole.now.walk) (map met_seen all.now.met.items)
         library (guest_count (source_of sites.now)) ≡ gives (map class_view ks.items)) }
     ensures err { IfErr result (IsFault (the_core_classes (source_of sites.now)
-        (world_of whole.entry.walk) (captured_of whole.entry.walk) (map met_seen all.now.met.items)
+        (world_of whole.now.walk) (captured_of whole.now.walk) (map met_seen all.now.met.items)
         library (guest_count (source_of sites.now)))) }
 {
-    let mut classes = Vec::new(alloc(whole.walk));
+    let mut classes = Vec::new(alloc(&whole.walk));
     for at in library..sites.len() {
         let class = class_at(whole, sites, all, ClassId(at as u32))?;
         classes.push(class)?;

@@ -32,7 +32,7 @@ fn declared_constructor<'a>(
     block: &'a Block,
     declared: &MethodDecl,
 ) -> Result<MembersDone<'a>, Refusal>
-    requires { HasAllMethods walk.bodies }
+    requires { HasAllMethods walk.bodies.now }
     ensures ok { IfOk result (λ d. the_constructor walk.entry at name
         (map formal_view formals.now) (constructor_invocation_view call.now) block.now.opening
         (statement_views_of block.now.stmts.items) block.now.closing
@@ -73,7 +73,7 @@ pub fn constructor<'a>(
     block: &'a Block,
     declared: Option<&MethodDecl>,
 ) -> Result<MembersDone<'a>, Refusal>
-    requires { HasAllMethods walk.bodies }
+    requires { HasAllMethods walk.bodies.now }
     ensures ok { IfOk result (λ d. the_constructor walk.entry at name
         (map formal_view formals.now) (constructor_invocation_view call.now) block.now.opening
         (statement_views_of block.now.stmts.items) block.now.closing

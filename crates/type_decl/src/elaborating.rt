@@ -86,19 +86,19 @@ fn whole_program(
 // The classes of the core program that are written.
 #[tactic(auto, using(je_typing::proofs::Walks::walks))]
 fn guests(
-    ground: Ground,
+    ground: &Ground,
     sites: &Sites,
     core: &[Class],
     declared: &mut [ClassDecl],
 ) -> Result<Vec<Class>, Refusal>
-    requires ground { IsGround (source_in ground.source) ground }
-    requires sites { source_of sites.now ≡ source_in ground.source }
-    requires core { map class_view core.now ≡ all_due (number_in (source_in ground.source).texts) }
-    requires classes { AreClasses (source_in ground.source)
-        (behind (map class_shown ground.library.now) (map class_shown declared.old)) }
-    ensures ok { IfOk result (λ ks. code (source_in ground.entry.source) ≡
+    requires ground { IsGround (source_in ground.now.source) ground.now }
+    requires sites { source_of sites.now ≡ source_in ground.now.source }
+    requires core { map class_view core.now ≡ all_due (number_in (source_in ground.now.source).texts) }
+    requires classes { AreClasses (source_in ground.now.source)
+        (behind (map class_shown ground.now.library.now) (map class_shown declared.old)) }
+    ensures ok { IfOk result (λ ks. code (source_in ground.now.source) ≡
         gives (map class_view ks.items)) }
-    ensures err { IfErr result (IsFault (code (source_in ground.entry.source))) }
+    ensures err { IfErr result (IsFault (code (source_in ground.now.source))) }
 {
     let first = first_half(ground, sites, core, declared)?;
     let classes = second_half(ground, sites, first, declared)?;
@@ -134,7 +134,7 @@ fn elaborate(
         library: &library,
         spots: &spots,
     };
-    let guests = guests(ground, sites, &core, declared)?;
+    let guests = guests(&ground, sites, &core, declared)?;
     let program = whole_program(alloc, core, guests)?;
     Ok(program)
 }

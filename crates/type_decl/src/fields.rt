@@ -27,7 +27,7 @@ fn initial_value(
     expr: &Expr,
     field: &FieldDecl,
 ) -> Result<TypedExpr, Refusal>
-    requires { HasAllMethods walk.bodies }
+    requires { HasAllMethods walk.bodies.now }
     ensures ok { IfOk result (λ t. the_initial_value walk.entry at (tree_of expr.now)
         (field_shown field.now) ≡ gives (seen t)) }
     ensures err { IfErr result (IsFault (the_initial_value walk.entry at (tree_of expr.now)
@@ -46,7 +46,7 @@ fn with_initializer<'a>(
     expr: &'a Expr,
     field: &FieldDecl,
 ) -> Result<MembersDone<'a>, Refusal>
-    requires { HasAllMethods walk.bodies }
+    requires { HasAllMethods walk.bodies.now }
     ensures ok { IfOk result (λ d. the_initialized walk.entry at name (tree_of expr.now)
         (Some (field_shown field.now)) ≡ gives (members_seen d)) }
     ensures err { IfErr result (IsFault (the_initialized walk.entry at name (tree_of expr.now)
@@ -60,7 +60,7 @@ fn with_initializer<'a>(
 // The variable that is the field at a place.
 #[tactic(auto, using(je_typing::proofs::Walks::walks))]
 fn variable<'a>(walk: ClassWalk, at: usize, var: &'a Var) -> Result<MembersDone<'a>, Refusal>
-    requires { HasAllMethods walk.bodies }
+    requires { HasAllMethods walk.bodies.now }
     ensures ok { IfOk result (λ d. the_variable walk.entry at var.now.name
         (view_of_option var.now.init) ≡ gives (members_seen d)) }
     ensures err { IfErr result (IsFault
@@ -70,7 +70,8 @@ fn variable<'a>(walk: ClassWalk, at: usize, var: &'a Var) -> Result<MembersDone<
         let done = uninitialized(alloc(walk))?;
         return Ok(done);
     };
-    match field_at(walk.bodies.calls.program.classes, walk.class, at) {
+    let bodies = walk.bodies;
+    match field_at(bodies.calls.program.classes, walk.class, at) {
         Some(field) => with_initializer(walk, at, var.name, expr, field),
         None => Ok(nothing(alloc(walk))),
     }
@@ -83,7 +84,7 @@ pub fn variables<'a>(
     first: usize,
     vars: &'a [Var],
 ) -> Result<MembersDone<'a>, Refusal>
-    requires { HasAllMethods walk.bodies }
+    requires { HasAllMethods walk.bodies.now }
     ensures ok { IfOk result (λ d. the_variables walk.entry first (variable_views_of vars.now)
         ≡ gives (members_seen d)) }
     ensures err { IfErr result (IsFault

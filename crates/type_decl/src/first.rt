@@ -139,27 +139,27 @@ fn begin(
     };
     let places = captured_fields(layout)?;
     let first = first_walk(ground, classes, &methods, &places, fields)?;
-    let constants = constants_before(first, sites, core)?;
+    let constants = constants_before(&first, sites, core)?;
     let named = constant_names(ground.source.alloc, classes, &constants)?;
     Ok(Begun { constants, named })
 }
 
 // Headers and signatures of all classes.
 #[tactic(auto, using(je_typing::proofs::Walks::walks), unfolding(class_heads::specs::View::classes_of))]
-fn judge(ground: Ground, declared: &[ClassDecl], named: &[ConstantField]) -> Result<(), Refusal>
-    requires ground { IsGround (source_in ground.source) ground }
-    requires classes { AreClasses (source_in ground.source) (behind (map class_shown
-        ground.library.now) (map class_shown declared.now)) }
-    requires named { is_among named.now ≡ is_constant (source_in ground.source) (first_world
-        (source_in ground.source) (constants_first (source_in ground.source))).program }
-    ensures ok { IfOk result (λ done. judged_first (source_in ground.entry.source) ≡ gives done) }
-    ensures err { IfErr result (IsFault (judged_first (source_in ground.entry.source))) }
+fn judge(ground: &Ground, declared: &[ClassDecl], named: &[ConstantField]) -> Result<(), Refusal>
+    requires ground { IsGround (source_in ground.now.source) ground.now }
+    requires classes { AreClasses (source_in ground.now.source) (behind (map class_shown
+        ground.now.library.now) (map class_shown declared.now)) }
+    requires named { is_among named.now ≡ is_constant (source_in ground.now.source) (first_world
+        (source_in ground.now.source) (constants_first (source_in ground.now.source))).program }
+    ensures ok { IfOk result (λ done. judged_first (source_in ground.now.source) ≡ gives done) }
+    ensures err { IfErr result (IsFault (judged_first (source_in ground.now.source))) }
 {
     let classes = AllClasses {
         library: ground.library,
         program: declared,
     };
-    let hierarchy = hierarchy_of(ground, classes)?;
+    let hierarchy = hierarchy_of(*ground, classes)?;
     let setting = Setting {
         around: Surroundings {
             program: &ground.source,
@@ -175,32 +175,32 @@ fn judge(ground: Ground, declared: &[ClassDecl], named: &[ConstantField]) -> Res
 // The first walk, and what each class captures.
 #[tactic(auto, using(je_typing::proofs::Walks::walks), unfolding(class_heads::specs::View::classes_of))]
 fn walk<'a>(
-    ground: Ground,
+    ground: &Ground,
     sites: &Sites<'a>,
     declared: &[ClassDecl],
     fields: &Fields,
     constants: Vec<Vec<Option<Constant>>>,
 ) -> Result<First<'a>, Refusal>
-    requires ground { IsGround (source_in ground.source) ground }
-    requires sites { source_of sites.now ≡ source_in ground.source }
-    requires classes { AreWithHidden (source_in ground.source) (nothing_captured (source_in
-        ground.source)) (behind (map class_shown ground.library.now) (map class_shown declared.now)) }
-    requires fields { AreFieldsOf (source_in ground.source) (nothing_captured (source_in
-        ground.source)) fields.now }
-    requires constants { constant_at constants.items ≡ constants_first (source_in ground.source) }
-    ensures ok { IfOk result (λ f. the_first_bodies (source_in ground.entry.source) ≡ gives
+    requires ground { IsGround (source_in ground.now.source) ground.now }
+    requires sites { source_of sites.now ≡ source_in ground.now.source }
+    requires classes { AreWithHidden (source_in ground.now.source) (nothing_captured (source_in
+        ground.now.source)) (behind (map class_shown ground.now.library.now) (map class_shown declared.now)) }
+    requires fields { AreFieldsOf (source_in ground.now.source) (nothing_captured (source_in
+        ground.now.source)) fields.now }
+    requires constants { constant_at constants.items ≡ constants_first (source_in ground.now.source) }
+    ensures ok { IfOk result (λ f. the_first_bodies (source_in ground.now.source) ≡ gives
         (bodies_met_seen f.bodies)) }
-    ensures placed { IfOk result (λ f. ArePlaced (source_in ground.entry.source).sites f.bodies.all) }
+    ensures placed { IfOk result (λ f. ArePlaced (source_in ground.now.source).sites f.bodies.all) }
     ensures captured { IfOk result (λ f. captured_seen f.captured.items ≡ captured_behind (source_in
-        ground.entry.source) (map met_seen f.bodies.all.met.items)) }
-    ensures err { IfErr result (IsFault (the_first_bodies (source_in ground.entry.source))) }
+        ground.now.source) (map met_seen f.bodies.all.met.items)) }
+    ensures err { IfErr result (IsFault (the_first_bodies (source_in ground.now.source))) }
 {
     let alloc = ground.source.alloc;
     let classes = AllClasses {
         library: ground.library,
         program: declared,
     };
-    let methods = method_table(ground, classes)?;
+    let methods = method_table(*ground, classes)?;
     let layout = Layout {
         source: ground.source,
         names: ground.names,
@@ -208,8 +208,8 @@ fn walk<'a>(
         captured: &[],
     };
     let places = captured_fields(layout)?;
-    let first = first_walk(ground, classes, &methods, &places, fields)?;
-    let bodies = first_bodies(first, sites, ground.library.len(), constants)?;
+    let first = first_walk(*ground, classes, &methods, &places, fields)?;
+    let bodies = first_bodies(&first, sites, ground.library.len(), constants)?;
     let rounds = all_rounds(alloc, sites, &bodies.all)?;
     let captured = captured_locals(&first.walk.bodies.calls.program, &bodies.all.met, &rounds)?;
     Ok(First { bodies, captured })
@@ -218,23 +218,23 @@ fn walk<'a>(
 /// Headers and signatures of all classes, and then the first walk over their bodies. The classes are left as they were.
 #[tactic(auto, using(je_typing::proofs::Walks::walks))]
 pub fn first_half<'a>(
-    ground: Ground,
+    ground: &Ground,
     sites: &Sites<'a>,
     core: &[Class],
     declared: &mut [ClassDecl],
 ) -> Result<First<'a>, Refusal>
-    requires ground { IsGround (source_in ground.source) ground }
-    requires sites { source_of sites.now ≡ source_in ground.source }
-    requires core { map class_view core.now ≡ all_due (number_in (source_in ground.source).texts) }
-    requires classes { AreClasses (source_in ground.source) (behind (map class_shown
-        ground.library.now) (map class_shown declared.old)) }
-    ensures ok { IfOk result (λ f. begun (source_in ground.entry.source) ≡ gives (bodies_met_seen
+    requires ground { IsGround (source_in ground.now.source) ground.now }
+    requires sites { source_of sites.now ≡ source_in ground.now.source }
+    requires core { map class_view core.now ≡ all_due (number_in (source_in ground.now.source).texts) }
+    requires classes { AreClasses (source_in ground.now.source) (behind (map class_shown
+        ground.now.library.now) (map class_shown declared.old)) }
+    ensures ok { IfOk result (λ f. begun (source_in ground.now.source) ≡ gives (bodies_met_seen
         f.bodies)) }
-    ensures placed { IfOk result (λ f. ArePlaced (source_in ground.entry.source).sites f.bodies.all) }
+    ensures placed { IfOk result (λ f. ArePlaced (source_in ground.now.source).sites f.bodies.all) }
     ensures captured { IfOk result (λ f. captured_seen f.captured.items ≡ captured_behind (source_in
-        ground.entry.source) (map met_seen f.bodies.all.met.items)) }
+        ground.now.source) (map met_seen f.bodies.all.met.items)) }
     ensures same { OnOk result (map class_shown declared.new ≡ map class_shown declared.old) }
-    ensures err { IfErr result (IsFault (begun (source_in ground.entry.source))) }
+    ensures err { IfErr result (IsFault (begun (source_in ground.now.source))) }
 {
     let layout = Layout {
         source: ground.source,
@@ -244,7 +244,7 @@ pub fn first_half<'a>(
     };
     let fields = fields_in(layout, sites)?;
     add_hidden_fields(layout, declared)?;
-    let Begun { constants, named } = begin(ground, sites, declared, &fields, core)?;
+    let Begun { constants, named } = begin(*ground, sites, declared, &fields, core)?;
     remove_hidden_fields(&fields.hidden, declared);
     judge(ground, declared, &named)?;
     add_hidden_fields(layout, declared)?;

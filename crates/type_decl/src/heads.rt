@@ -37,7 +37,7 @@ fn arguments<'a>(
     progress: &mut Progress<'a>,
     exprs: &'a [Expr],
 ) -> Result<Vec<TypedExpr>, Refusal>
-    requires { HasAllMethods walk.bodies }
+    requires { HasAllMethods walk.bodies.now }
     ensures ok { IfOk result (λ ts. the_values (program_of walk.entry) (known_of walk.entry)
         (in_arguments (scope_seen scope.old)) (views_of exprs.now) ≡ gives (map seen ts.items)) }
     ensures met { OnOk result (progress_seen progress.new ≡ with_met
@@ -65,7 +65,7 @@ fn explicit_call<'a>(
     word: Span,
     exprs: &'a [Expr],
 ) -> Result<Option<TypedExpr>, Refusal>
-    requires { HasAllMethods walk.bodies }
+    requires { HasAllMethods walk.bodies.now }
     ensures ok { IfOk result (λ t. the_head_call (program_of walk.entry) (known_of walk.entry)
         (scope_seen scope.old) (the_class_span walk.entry)
         (explicit is_super word (views_of exprs.now)) ≡ gives (listed (option_map seen t))) }
@@ -91,7 +91,7 @@ pub fn head_call<'a>(
     progress: &mut Progress<'a>,
     call: &'a ConstructorCall,
 ) -> Result<Option<TypedExpr>, Refusal>
-    requires { HasAllMethods walk.bodies }
+    requires { HasAllMethods walk.bodies.now }
     ensures ok { IfOk result (λ t. the_head_call (program_of walk.entry) (known_of walk.entry)
         (scope_seen scope.old) (the_class_span walk.entry) (constructor_invocation_view call.now)
         ≡ gives (listed (option_map seen t))) }
@@ -113,7 +113,7 @@ fn head_call_here<'a>(
     progress: &mut Progress<'a>,
     call: &'a ConstructorCall,
 ) -> Result<Option<TypedExpr>, Refusal>
-    requires { HasAllMethods walk.bodies }
+    requires { HasAllMethods walk.bodies.now }
     ensures ok { IfOk result (λ t. the_head_call (program_of walk.entry) (known_of walk.entry)
         (scope_seen scope.old) (the_class_span walk.entry)
         (constructor_invocation_node_view call.now) ≡ gives (listed (option_map seen t))) }
@@ -125,9 +125,10 @@ fn head_call_here<'a>(
         (known_of walk.entry) (scope_seen scope.old) (the_class_span walk.entry)
         (constructor_invocation_node_view call.now))) }
 {
+    let bodies = walk.bodies;
     match call {
         ConstructorCall::Implicit => {
-            implicit_constructor_call(walk.bodies.calls, scope.place(), class_span(walk))?;
+            implicit_constructor_call(bodies.calls, scope.place(), class_span(walk))?;
             Ok(None)
         }
         ConstructorCall::Explicit {

@@ -25,7 +25,7 @@ pub fn initializer<'a>(
     word: &Option<Span>,
     block: &'a Block,
 ) -> Result<MembersDone<'a>, Refusal>
-    requires { HasAllMethods walk.bodies }
+    requires { HasAllMethods walk.bodies.now }
     ensures ok { IfOk result (λ d. the_initializer walk.entry fields word.now
         block.now.opening (statement_views_of block.now.stmts.items) block.now.closing
         ≡ gives (members_seen d)) }

@@ -115,15 +115,15 @@ fn in_own_initializer<'a>(
 
 // The constant of a field with that initializer.
 fn initialized(
-    bodies: Bodies,
+    bodies: &Bodies,
     scope: &Scope,
     field: &FieldDecl,
     init: &Expr,
 ) -> Result<Option<Constant>, Memory>
-    requires { HasAllMethods bodies }
+    requires { HasAllMethods bodies.now }
     ensures { IfOk result (λ constant. option_map constant_seen constant ≡
-        if_final (field_shown field.now) (the_value (expression (program_in bodies.entry)
-        (known_in bodies.entry) (scope_seen scope.now) (initial (field_shown field.now).ty)
+        if_final (field_shown field.now) (the_value (expression (program_in bodies.now)
+        (known_in bodies.now) (scope_seen scope.now) (initial (field_shown field.now).ty)
         (view init.now)))) }
 {
     let alloc = bodies.calls.program.source.alloc;
@@ -136,16 +136,16 @@ fn initialized(
 
 // The constant of the field at a place of a class, of which that is written.
 fn constant_by(
-    bodies: Bodies,
+    bodies: &Bodies,
     round: &[Frame],
     class: ClassId,
     at: usize,
     value: FieldValue,
 ) -> Result<Option<Constant>, Memory>
-    requires methods { HasAllMethods bodies }
-    requires known { known_in bodies ≡ nothing_known (program_in bodies) }
+    requires methods { HasAllMethods bodies.now }
+    requires known { known_in bodies.now ≡ nothing_known (program_in bodies.now) }
     ensures { IfOk result (λ constant. option_map constant_seen constant ≡
-        constant_due (program_in bodies.entry) (map frame_seen round.now)
+        constant_due (program_in bodies.now) (map frame_seen round.now)
         (record { class = class; at = at }) (value_seen value.entry)) }
 {
     let program = bodies.calls.program;
@@ -163,15 +163,15 @@ fn constant_by(
 
 /// The constants of a class, of whose fields those are written.
 pub fn constants_by(
-    bodies: Bodies,
+    bodies: &Bodies,
     round: &[Frame],
     class: ClassId,
     values: &[FieldValue],
 ) -> Result<Vec<Option<Constant>>, Memory>
-    requires methods { HasAllMethods bodies }
-    requires known { known_in bodies ≡ nothing_known (program_in bodies) }
+    requires methods { HasAllMethods bodies.now }
+    requires known { known_in bodies.now ≡ nothing_known (program_in bodies.now) }
     ensures { IfOk result (λ row. (at : ℕ) → constant_in (slice_get row.items at) ≡
-        constant_due (program_in bodies.entry) (map frame_seen round.now)
+        constant_due (program_in bodies.now) (map frame_seen round.now)
         (record { class = class; at = at })
         (unwrap_or (slice_get (map value_seen values.now) at) unwritten)) }
 {

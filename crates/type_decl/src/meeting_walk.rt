@@ -41,14 +41,14 @@ pub fn program_with<'a>(program: Program<'a>, constants: &'a [Vec<Option<Constan
 
 // The first walk where these fields are constants.
 #[tactic(auto, unfolding(core_making::specs::Known::known_seen))]
-fn walk_with<'a>(walk: Walk<'a>, constants: &'a [Vec<Option<Constant>>]) -> Walk<'a>
+fn walk_with<'a>(walk: &Walk<'a>, constants: &'a [Vec<Option<Constant>>]) -> Walk<'a>
     ensures program { program_in result.bodies ≡
-        record (program_in walk.entry.bodies) { constants = constant_at constants.now } }
-    ensures known { result.bodies.known ≡ walk.entry.bodies.known }
-    ensures hidden { result.hidden ≡ walk.entry.hidden }
-    ensures methods { HasAllMethods walk.entry.bodies → HasAllMethods result.bodies }
+        record (program_in walk.now.bodies) { constants = constant_at constants.now } }
+    ensures known { result.bodies.known ≡ walk.now.bodies.known }
+    ensures hidden { result.hidden ≡ walk.now.hidden }
+    ensures methods { HasAllMethods walk.now.bodies → HasAllMethods result.bodies }
 {
-    let bodies = walk.bodies;
+    let bodies = &walk.bodies;
     Walk {
         bodies: Bodies {
             calls: Calls {
@@ -66,12 +66,12 @@ fn walk_with<'a>(walk: Walk<'a>, constants: &'a [Vec<Option<Constant>>]) -> Walk
 // One class further.
 #[tactic(auto, using(je_typing::proofs::Walks::walks))]
 fn walk_class<'a>(
-    first: FirstWalk,
+    first: &FirstWalk,
     sites: &Sites<'a>,
     class: ClassId,
     done: BodiesMet<'a>,
 ) -> Result<BodiesMet<'a>, Refusal>
-    requires begins { IsFirst (source_of sites.now) first }
+    requires begins { IsFirst (source_of sites.now) first.now }
     requires placed { ArePlaced (source_of sites.now).sites done.all }
     requires there { class.0 < length (source_of sites.now).sites }
     ensures ok { IfOk result (λ d. walked (source_of sites.now) (bodies_met_seen done.entry) class.0
@@ -81,20 +81,20 @@ fn walk_class<'a>(
     ensures err { IfErr result (IsFault (walked (source_of sites.now) (bodies_met_seen done.entry)
         class.0)) }
 {
-    let walk = walk_with(first.walk, &done.constants);
-    let MembersDone { met, .. } = members(walk, sites, &done.all, class)?;
+    let walk = walk_with(&first.walk, &done.constants);
+    let MembersDone { met, .. } = members(&walk, sites, &done.all, class)?;
     Ok(behind(first, sites, met, done)?)
 }
 
 /// What is met in the bodies of all classes, and the constants that are told behind them; these were told before.
 #[tactic(auto, using(je_typing::proofs::Walks::walks))]
 pub fn first_bodies<'a>(
-    first: FirstWalk,
+    first: &FirstWalk,
     sites: &Sites<'a>,
     library: usize,
     constants: Vec<Vec<Option<Constant>>>,
 ) -> Result<BodiesMet<'a>, Refusal>
-    requires begins { IsFirst (source_of sites.now) first }
+    requires begins { IsFirst (source_of sites.now) first.now }
     requires library { library ≡ library_count (source_of sites.now) }
     requires constants { constant_at constants.items ≡ constants_first (source_of sites.now) }
     ensures ok { IfOk result (λ m. the_first_bodies (source_of sites.now) ≡
@@ -102,7 +102,7 @@ pub fn first_bodies<'a>(
     ensures placed { IfOk result (λ m. ArePlaced (source_of sites.now).sites m.all) }
     ensures err { IfErr result (IsFault (the_first_bodies (source_of sites.now))) }
 {
-    let all = nothing_met(alloc(first.walk), sites)?;
+    let all = nothing_met(alloc(&first.walk), sites)?;
     let mut done = BodiesMet { all, constants };
     for at in library..sites.len() {
         done = walk_class(first, sites, ClassId(at as u32), done)?;

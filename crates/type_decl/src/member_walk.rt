@@ -22,23 +22,23 @@ use name_sites::Sites;
 /// What the members of a class come to, behind what was met in bodies.
 #[tactic(auto, using(je_typing::proofs::Walks::walks))]
 pub fn members<'a>(
-    walk: Walk,
+    walk: &Walk,
     sites: &Sites<'a>,
     all: &AllMet,
     class: ClassId,
 ) -> Result<MembersDone<'a>, Refusal>
-    requires methods { HasAllMethods walk.bodies }
-    requires sites { source_of sites.now ≡ (program_in walk.bodies).source }
+    requires methods { HasAllMethods walk.now.bodies }
+    requires sites { source_of sites.now ≡ (program_in walk.now.bodies).source }
     requires placed { ArePlaced (source_of sites.now).sites all.now }
     requires there { class.0 < length (source_of sites.now).sites }
-    ensures ok { IfOk result (λ d. members_at (world_of walk.entry) (count_at walk.entry.hidden.now)
+    ensures ok { IfOk result (λ d. members_at (world_of walk.now) (count_at walk.now.hidden.now)
         (map met_seen all.now.met.items) class.0 ≡ gives (members_seen d)) }
-    ensures err { IfErr result (IsFault (members_at (world_of walk.entry)
-        (count_at walk.entry.hidden.now) (map met_seen all.now.met.items) class.0)) }
+    ensures err { IfErr result (IsFault (members_at (world_of walk.now)
+        (count_at walk.now.hidden.now) (map met_seen all.now.met.items) class.0)) }
 {
     let round = round_met(alloc(walk), sites, &all.stands, &all.met, class)?;
     let of_class = ClassWalk {
-        bodies: walk.bodies,
+        bodies: &walk.bodies,
         class,
         round: &round,
         names: walk.names,

@@ -38,7 +38,7 @@ fn one_member<'a>(
     methods: usize,
     member: &'a Member,
 ) -> Result<MembersDone<'a>, Refusal>
-    requires { HasAllMethods walk.bodies }
+    requires { HasAllMethods walk.bodies.now }
     ensures ok { IfOk result (λ d. the_one_member walk.entry fields methods
         (member_view member.now) ≡ gives (members_seen d)) }
     ensures err { IfErr result (IsFault (the_one_member walk.entry fields methods
@@ -53,7 +53,7 @@ fn one_member_here<'a>(
     methods: usize,
     member: &'a Member,
 ) -> Result<MembersDone<'a>, Refusal>
-    requires { HasAllMethods walk.bodies }
+    requires { HasAllMethods walk.bodies.now }
     ensures ok { IfOk result (λ d. the_one_member walk.entry fields methods
         (member_node_view member.now) ≡ gives (members_seen d)) }
     ensures err { IfErr result (IsFault (the_one_member walk.entry fields methods
@@ -89,7 +89,7 @@ fn members_from<'a>(
     hidden: usize,
     members: &'a [Member],
 ) -> Result<MembersDone<'a>, Refusal>
-    requires { HasAllMethods walk.bodies }
+    requires { HasAllMethods walk.bodies.now }
     ensures ok { IfOk result (λ d. the_members_from walk.entry hidden 0
         (member_views_of members.now) ≡ gives (members_seen d)) }
     ensures err { IfErr result (IsFault
@@ -115,7 +115,7 @@ fn whole<'a>(
     stands: Option<&Met<'_>>,
     hidden: usize,
 ) -> Result<MembersDone<'a>, Refusal>
-    requires methods { HasAllMethods walk.bodies }
+    requires methods { HasAllMethods walk.bodies.now }
     requires written { written_view written ≡ written_of walk }
     ensures ok { IfOk result (λ d. whole_for walk.entry
         (option_map (λ m. met_seen m.now) stands.entry) hidden ≡ gives (members_seen d)) }
@@ -138,7 +138,7 @@ pub fn class_members<'a>(
     stands: Option<&Met<'_>>,
     hidden: usize,
 ) -> Result<MembersDone<'a>, Refusal>
-    requires methods { HasAllMethods walk.bodies }
+    requires methods { HasAllMethods walk.bodies.now }
     requires written { written_view written ≡ written_of walk }
     ensures ok { (met : List SeenMet) → find (stands_at walk.entry.class.0) met ≡
         option_map (λ m. met_seen m.now) stands.entry → IfOk result (λ d. the_class_members

@@ -27,7 +27,7 @@ fn declared_method<'a>(
     body: &'a Option<Block>,
     declared: &MethodDecl,
 ) -> Result<MembersDone<'a>, Refusal>
-    requires { HasAllMethods walk.bodies }
+    requires { HasAllMethods walk.bodies.now }
     ensures ok { IfOk result (λ d. the_method walk.entry name (map formal_view formals.now)
         (block_view_of_option body.now) (Some (method_shown declared.now))
         ≡ gives (members_seen d)) }
@@ -57,7 +57,7 @@ pub fn method<'a>(
     body: &'a Option<Block>,
     declared: Option<&MethodDecl>,
 ) -> Result<MembersDone<'a>, Refusal>
-    requires { HasAllMethods walk.bodies }
+    requires { HasAllMethods walk.bodies.now }
     ensures ok { IfOk result (λ d. the_method walk.entry name (map formal_view formals.now)
         (block_view_of_option body.now) (option_map (λ m. method_shown m.now) declared.entry)
         ≡ gives (members_seen d)) }

@@ -52,11 +52,11 @@ fn values_at<'v, 'a>(
 }
 
 // The constants of a class, if it is asked.
-fn row_at(bodies: Bodies, fields: Fields, at: usize) -> Result<Vec<Option<Constant>>, Memory>
-    requires methods { HasAllMethods bodies }
-    requires known { known_in bodies ≡ nothing_known (program_in bodies) }
+fn row_at(bodies: &Bodies, fields: Fields, at: usize) -> Result<Vec<Option<Constant>>, Memory>
+    requires methods { HasAllMethods bodies.now }
+    requires known { known_in bodies.now ≡ nothing_known (program_in bodies.now) }
     ensures { IfOk result (λ row. is_asked fields.entry.asked.now at ≡ true → (place : ℕ) →
-        constant_in (slice_get row.items place) ≡ constant_due (program_in bodies.entry)
+        constant_in (slice_get row.items place) ≡ constant_due (program_in bodies.now)
         (round_seen fields.entry.round.now at) (record { class = class_numbered at; at = place })
         (unwrap_or (slice_get (values_in (slice_get fields.entry.values.now at)) place)
         unwritten)) }
@@ -94,26 +94,26 @@ fn next_rows(
     let alloc = bodies.calls.program.source.alloc;
     let mut rows = Vec::new(alloc);
     for at in 0..count {
-        rows.push(row_at(bodies, fields, at)?)?;
+        rows.push(row_at(&bodies, fields, at)?)?;
     }
     Ok(rows)
 }
 
 // One round further; whether it surely told nothing new.
 fn next_round(
-    bodies: Bodies,
+    bodies: &Bodies,
     fields: Fields,
     constants: &mut Vec<Vec<Option<Constant>>>,
 ) -> Result<bool, Memory>
-    requires methods { HasAllMethods bodies }
+    requires methods { HasAllMethods bodies.now }
     requires whole { length fields.values.now ≤ length constants.old.items }
     ensures whole { OnOk result (length constants.new.items ≡ length constants.old.items) }
     ensures next { OnOk result (constant_at constants.new.items ≡
-        next_seen (program_in bodies.entry) fields.entry (constant_at constants.old.items)) }
+        next_seen (program_in bodies.now) fields.entry (constant_at constants.old.items)) }
     ensures settled { IfOk result (λ is_settled. is_settled ≡ true →
         constant_at constants.new.items ≡ constant_at constants.old.items) }
 {
-    let rows = next_rows(judged_by(bodies, constants), fields, constants.len())?;
+    let rows = next_rows(judged_by(*bodies, constants), fields, constants.len())?;
     let is_settled = are_settled(fields.asked, &rows, constants);
     put(fields.asked, rows, constants);
     Ok(is_settled)
@@ -135,7 +135,7 @@ fn most_rounds(classes: AllClasses) -> Result<usize, Memory>
 
 // So many classes at least; those that are added have no constants.
 fn fill_up(
-    bodies: Bodies,
+    bodies: &Bodies,
     count: usize,
     constants: &mut Vec<Vec<Option<Constant>>>,
 ) -> Result<(), Memory>
@@ -153,14 +153,14 @@ fn fill_up(
 /// The constants among the fields of the classes that are asked, beside those that are known of the others: by rounds,
 /// until one tells nothing new.
 pub fn constants_told(
-    bodies: Bodies,
+    bodies: &Bodies,
     fields: Fields,
     mut constants: Vec<Vec<Option<Constant>>>,
 ) -> Result<Vec<Vec<Option<Constant>>>, Memory>
-    requires { HasAllMethods bodies }
+    requires { HasAllMethods bodies.now }
     ensures { IfOk result (λ told. (hidden : ℕ → ℕ) →
-        value_at fields.entry.values.now ≡ field_value (program_in bodies.entry) hidden →
-        constant_at told.items ≡ constants_of (program_in bodies.entry) hidden
+        value_at fields.entry.values.now ≡ field_value (program_in bodies.now) hidden →
+        constant_at told.items ≡ constants_of (program_in bodies.now) hidden
         (round_seen fields.entry.round.now) (is_asked fields.entry.asked.now)
         (constant_at constants.items)) }
 {

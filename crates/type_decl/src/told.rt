@@ -112,39 +112,39 @@ fn rounds_asked(
 
 // The constants of the classes that are asked, beside those that are known of the others.
 fn told(
-    first: FirstWalk,
+    first: &FirstWalk,
     sites: &Sites,
     all: &AllMet,
     asked: &[bool],
     constants: Vec<Vec<Option<Constant>>>,
 ) -> Result<Vec<Vec<Option<Constant>>>, Memory>
-    requires begins { IsFirst (source_of sites.now) first }
+    requires begins { IsFirst (source_of sites.now) first.now }
     requires placed { ArePlaced (source_of sites.now).sites all.now }
     ensures { IfOk result (λ told. constant_at told.items ≡
         the_constants_told (source_of sites.now) (is_asked asked.now)
         (map met_seen all.now.met.items) (constant_at constants.items)) }
 {
-    let round = rounds_asked(alloc(first.walk), sites, all, asked)?;
+    let round = rounds_asked(alloc(&first.walk), sites, all, asked)?;
     let fields = Fields {
         values: first.values,
         round: &round,
         asked,
     };
-    let told = constants_told(first.walk.bodies, fields, constants)?;
+    let told = constants_told(&first.walk.bodies, fields, constants)?;
     Ok(told)
 }
 
 /// The constants, as far as they are told without bodies.
 pub fn constants_before(
-    first: FirstWalk,
+    first: &FirstWalk,
     sites: &Sites,
     library: &[Class],
 ) -> Result<Vec<Vec<Option<Constant>>>, Memory>
-    requires begins { IsFirst (source_of sites.now) first }
+    requires begins { IsFirst (source_of sites.now) first.now }
     requires library { map class_view library.now ≡ all_due (number_in (source_of sites.now).texts) }
     ensures { IfOk result (λ told. constant_at told.items ≡ constants_first (source_of sites.now)) }
 {
-    let alloc = alloc(first.walk);
+    let alloc = alloc(&first.walk);
     let known = library_constants(alloc, library, sites)?;
     let nothing = nothing_met(alloc, sites)?;
     let asked = guests(alloc, sites)?;
@@ -153,12 +153,12 @@ pub fn constants_before(
 
 /// What was met newly, behind what was met before, and the constants that it tells.
 pub fn behind<'a>(
-    first: FirstWalk,
+    first: &FirstWalk,
     sites: &Sites<'a>,
     new: Vec<Met<'a>>,
     done: BodiesMet<'a>,
 ) -> Result<BodiesMet<'a>, Memory>
-    requires begins { IsFirst (source_of sites.now) first }
+    requires begins { IsFirst (source_of sites.now) first.now }
     requires placed { ArePlaced (source_of sites.now).sites done.all }
     ensures met { IfOk result (λ d. map met_seen d.all.met.items ≡
         map met_seen done.entry.all.met.items ++ map met_seen new.entry.items) }
@@ -172,7 +172,7 @@ pub fn behind<'a>(
         let all = met_behind(all, new)?;
         return Ok(BodiesMet { all, constants });
     }
-    let asked = placed(alloc(first.walk), sites, &new)?;
+    let asked = placed(alloc(&first.walk), sites, &new)?;
     let all = met_behind(all, new)?;
     let constants = told(first, sites, &all, &asked, constants)?;
     Ok(BodiesMet { all, constants })

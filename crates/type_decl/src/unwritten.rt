@@ -39,7 +39,7 @@ fn chosen_at(
     ty: &TyName,
     exprs: &[Expr],
 ) -> Result<Candidate, Refusal>
-    requires { HasAllMethods walk.bodies }
+    requires { HasAllMethods walk.bodies.now }
     ensures ok { IfOk result (λ m. the_chosen_for (program_of walk.entry) (known_of walk.entry)
         (standing_seen standing.now) word (type_view ty.now) (views_of exprs.now)
         ≡ gives (candidate_seen m)) }
@@ -62,7 +62,7 @@ fn anonymous_at<'a>(
     ty: &TyName,
     exprs: &[Expr],
 ) -> Result<MembersDone<'a>, Refusal>
-    requires { HasAllMethods walk.bodies }
+    requires { HasAllMethods walk.bodies.now }
     ensures ok { IfOk result (λ d. the_anonymous_at walk.entry (standing_seen standing.now) word
         (type_view ty.now) (views_of exprs.now) ≡ gives (members_seen d)) }
     ensures err { IfErr result (IsFault (the_anonymous_at walk.entry (standing_seen standing.now)
@@ -75,7 +75,7 @@ fn anonymous_at<'a>(
 
 // The same, by what was met.
 fn anonymous_met<'a>(walk: ClassWalk, met: &Met<'_>) -> Result<MembersDone<'a>, Refusal>
-    requires { HasAllMethods walk.bodies }
+    requires { HasAllMethods walk.bodies.now }
     ensures ok { IfOk result (λ d. the_anonymous_constructor walk.entry (Some (met_seen met.now))
         ≡ gives (members_seen d)) }
     ensures err { IfErr result (IsFault
@@ -98,7 +98,7 @@ fn anonymous_constructor<'a>(
     walk: ClassWalk,
     stands: Option<&Met<'_>>,
 ) -> Result<MembersDone<'a>, Refusal>
-    requires { HasAllMethods walk.bodies }
+    requires { HasAllMethods walk.bodies.now }
     ensures ok { IfOk result (λ d. the_anonymous_constructor walk.entry
         (option_map (λ m. met_seen m.now) stands.entry) ≡ gives (members_seen d)) }
     ensures err { IfErr result (IsFault (the_anonymous_constructor walk.entry
@@ -118,7 +118,8 @@ fn unwritten_of<'a>(walk: ClassWalk, written: Written<'_>) -> Result<MembersDone
     ensures err { IfErr result (IsFault
         (unwritten_if walk.entry (written_view written.entry))) }
 {
-    match walk.bodies.calls.program.source.sites.sort(walk.class) {
+    let bodies = walk.bodies;
+    match bodies.calls.program.source.sites.sort(walk.class) {
         Sort::Enum => {
             let done = enum_members(walk, constants_of(written))?;
             Ok(done)
@@ -140,7 +141,7 @@ pub fn unwritten<'a>(
     stands: Option<&Met<'_>>,
     written: Written<'_>,
 ) -> Result<MembersDone<'a>, Refusal>
-    requires { HasAllMethods walk.bodies }
+    requires { HasAllMethods walk.bodies.now }
     ensures ok { IfOk result (λ d. unwritten_for walk.entry
         (option_map (λ m. met_seen m.now) stands.entry) (written_view written.entry)
         ≡ gives (members_seen d)) }

@@ -20,7 +20,7 @@ pub struct Walk<'a> {
 }
 
 /// Where nodes are made.
-pub fn alloc(walk: Walk) -> Global {
+pub fn alloc(walk: &Walk) -> Global {
     walk.bodies.calls.program.source.alloc
 }
 

@@ -164,27 +164,27 @@ fn walk_again(
         hierarchy: &hierarchy,
         numbers: &numbers,
     };
-    let classes = core_classes(whole, sites, all, ground.library.len())?;
+    let classes = core_classes(&whole, sites, all, ground.library.len())?;
     Ok(classes)
 }
 
 /// The classes of the core program that are written, behind the first walk.
 #[tactic(auto, using(je_typing::proofs::Walks::walks))]
 pub fn second_half(
-    ground: Ground,
+    ground: &Ground,
     sites: &Sites,
     first: First,
     declared: &mut [ClassDecl],
 ) -> Result<Vec<Class>, Refusal>
-    requires ground { IsGround (source_in ground.source) ground }
-    requires sites { source_of sites.now ≡ source_in ground.source }
-    requires classes { AreClasses (source_in ground.source) (behind (map class_shown
-        ground.library.now) (map class_shown declared.old)) }
-    requires placed { ArePlaced (source_in ground.source).sites first.bodies.all }
-    ensures ok { IfOk result (λ ks. code_with (source_in ground.entry.source) (captured_seen
+    requires ground { IsGround (source_in ground.now.source) ground.now }
+    requires sites { source_of sites.now ≡ source_in ground.now.source }
+    requires classes { AreClasses (source_in ground.now.source) (behind (map class_shown
+        ground.now.library.now) (map class_shown declared.old)) }
+    requires placed { ArePlaced (source_in ground.now.source).sites first.bodies.all }
+    ensures ok { IfOk result (λ ks. code_with (source_in ground.now.source) (captured_seen
         first.entry.captured.items) (bodies_met_seen first.entry.bodies) ≡ gives (map class_view
         ks.items)) }
-    ensures err { IfErr result (IsFault (code_with (source_in ground.entry.source) (captured_seen
+    ensures err { IfErr result (IsFault (code_with (source_in ground.now.source) (captured_seen
         first.entry.captured.items) (bodies_met_seen first.entry.bodies))) }
 {
     let First { bodies, captured } = first;
@@ -206,6 +206,6 @@ pub fn second_half(
         constants: &constants,
         fields: &fields,
     };
-    let classes = walk_again(ground, sites, &all, told, declared)?;
+    let classes = walk_again(*ground, sites, &all, told, declared)?;
     Ok(classes)
 }

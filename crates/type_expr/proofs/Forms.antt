@@ -1,5 +1,5 @@
 -- What forms of several parts come to.
-use Rattle.std.proofs.Common.{◌≡◌, ◌⊎◌, inl, inr, ℕ, List, Option, Result, IfOk, IfErr, refl, sym, ap, subst, ◌∙◌}
+use Rattle.std.proofs.Common.{◌≡◌, ◌⊎◌, inl, inr, ℕ, Bool, List, Option, Result, IfOk, IfErr, refl, sym, ap, subst, ◌∙◌}
 use Rattle.je_base.specs.declared.span.Span.{Span}
 use Rattle.je_ast.specs.declared.name.Identifier.{Identifier}
 use Rattle.je_ast.specs.declared.operator.BinaryOp.{BinaryOp}
@@ -17,7 +17,7 @@ use Rattle.je_typing.specs.Judged.{Judged, bind, gives}
 use Rattle.je_typing.specs.Typed.{TypedNode, element_type}
 use Rattle.je_typing.proofs.Walks.{bind_faults, bind_gives, fault_later}
 use Rattle.body_types.specs.BodyTypes.{bare_type}
-use Rattle.body_typing.specs.Expressions.{Purpose, array_over, assign_step, assigned_by, innermost, name_span, read, target_purpose}
+use Rattle.body_typing.specs.Expressions.{Purpose, array_over, assign_step, assigned_by, innermost, is_variable, name_span, read, target_purpose}
 use Rattle.type_expr.specs.Seen.{purpose_seen}
 use Rattle.type_expr.specs.declared.purpose.Purpose.{Purpose as Purposed}
 use Rattle.type_expr.specs.declared.purpose.Purpose.TheVariants.{Read, Assigned, Updated}
@@ -32,12 +32,12 @@ use Rattle.type_expr.specs.Walk.{elements_behind, expression_in, value_in}
 
 module _ (b : Bodies) (s : Scope) where
   -- an assignment, of parts with their spans
-  pub assign_is : (o : Option BinaryOp) (at span : Span) (e f : Expression) (q : Purpose) (left right : TypedNode) (left_span right_span : Span) →
-      q ≡ target_purpose o → value_in b s q e ≡ gives left → left_span ≡ span_of e → value_in b s read f ≡ gives right → right_span ≡ span_of f →
+  pub assign_is : (o : Option BinaryOp) (at span : Span) (e f : Expression) (q : Purpose) (left right : TypedNode) (left_span right_span : Span) (written : Bool) →
+      q ≡ target_purpose o → value_in b s q e ≡ gives left → left_span ≡ span_of e → value_in b s read f ≡ gives right → right_span ≡ span_of f → written ≡ is_variable e →
       expression_in b s read (assign o at e f span)
-      ≡ assigned_by (program_in b) (known_in b) (scope_seen s) left (assign_step (program_in b) (known_in b) (scope_seen s) o at left_span right_span span left right)
-  assign_is o at span e f q left right left_span right_span for h spans g ends =
-      rw (spans, ends)
+      ≡ assigned_by (program_in b) (known_in b) (scope_seen s) left_span written left (assign_step (program_in b) (known_in b) (scope_seen s) o at left_span right_span span left right)
+  assign_is o at span e f q left right left_span right_span written for h spans g ends is =
+      rw (spans, ends, is)
       (bind_gives (value_in b s (target_purpose o) e) _ left (subst (λ (x : Purpose). value_in b s x e ≡ gives left) for h)
       ∙ bind_gives (value_in b s read f) _ right g)
 

@@ -30,7 +30,7 @@ before_in b s e = words.before (program_in b) (known_in b) (scope_seen s)
 
 abbrev pub prefixed_in : Bodies → Scope → PrefixOp → Span → Expression → Span → Judged TypedNode
 prefixed_in b s o at e span = words.or_else (words.negative_literal o e span)
-    (words.prefixed (program_in b) (known_in b) (scope_seen s) o at (span_of e) span
+    (words.prefixed (program_in b) (known_in b) (scope_seen s) o at (span_of e) (words.is_variable e) span
     (expression_in b s (words.prefix_purpose o) e))
 
 -- lists of expressions, those of an array initializer by the type of the elements

@@ -46,19 +46,19 @@ fn class_or_zero(ty: &SrcTy) -> ClassId
 /// `new C(..)`
 #[tactic(auto, using(je_typing::proofs::Walks::walks))]
 pub fn created(
-    bodies: Bodies,
+    bodies: &Bodies,
     scope: &Scope,
     ty: SrcTy,
     spans: CreationSpans,
     arguments: Vec<TypedExpr>,
 ) -> Result<TypedExpr, Refusal>
-    ensures ok { IfOk result (λ t. the_creation (program_in bodies.entry)
+    ensures ok { IfOk result (λ t. the_creation (program_in bodies.now)
         (scope_seen scope.now).place (shown ty) spans.word spans.name spans.whole
-        (map seen arguments.items) ((known_in bodies.entry).captures (scope_seen scope.now).place
+        (map seen arguments.items) ((known_in bodies.now).captures (scope_seen scope.now).place
         (the_class_or_zero (shown ty))) ≡ gives (seen t)) }
-    ensures err { IfErr result (IsFault (the_creation (program_in bodies.entry)
+    ensures err { IfErr result (IsFault (the_creation (program_in bodies.now)
         (scope_seen scope.now).place (shown ty) spans.word spans.name spans.whole
-        (map seen arguments.items) ((known_in bodies.entry).captures (scope_seen scope.now).place
+        (map seen arguments.items) ((known_in bodies.now).captures (scope_seen scope.now).place
         (the_class_or_zero (shown ty))))) }
 {
     let program = &bodies.calls.program;
@@ -70,23 +70,23 @@ pub fn created(
 /// `new C(..) { .. }`, where the class of the body stands behind the word.
 #[tactic(auto, using(je_typing::proofs::Walks::walks))]
 pub fn created_with_body(
-    bodies: Bodies,
+    bodies: &Bodies,
     scope: &Scope,
     ty: &TyName,
     spans: CreationSpans,
     arguments: Vec<TypedExpr>,
 ) -> Result<TypedExpr, Refusal>
-    ensures ok { IfOk result (λ t. the_anonymous_creation (program_in bodies.entry)
-        (scope_seen scope.now).place (anonymous_at (program_in bodies.entry) spans.word)
-        (the_anonymous_type (program_in bodies.entry) spans.word (type_view ty.now)) spans.word
-        spans.name spans.whole (map seen arguments.items) ((known_in bodies.entry).captures
-        (scope_seen scope.now).place (anonymous_at (program_in bodies.entry) spans.word))
+    ensures ok { IfOk result (λ t. the_anonymous_creation (program_in bodies.now)
+        (scope_seen scope.now).place (anonymous_at (program_in bodies.now) spans.word)
+        (the_anonymous_type (program_in bodies.now) spans.word (type_view ty.now)) spans.word
+        spans.name spans.whole (map seen arguments.items) ((known_in bodies.now).captures
+        (scope_seen scope.now).place (anonymous_at (program_in bodies.now) spans.word))
         ≡ gives (seen t)) }
-    ensures err { IfErr result (IsFault (the_anonymous_creation (program_in bodies.entry)
-        (scope_seen scope.now).place (anonymous_at (program_in bodies.entry) spans.word)
-        (the_anonymous_type (program_in bodies.entry) spans.word (type_view ty.now)) spans.word
-        spans.name spans.whole (map seen arguments.items) ((known_in bodies.entry).captures
-        (scope_seen scope.now).place (anonymous_at (program_in bodies.entry) spans.word)))) }
+    ensures err { IfErr result (IsFault (the_anonymous_creation (program_in bodies.now)
+        (scope_seen scope.now).place (anonymous_at (program_in bodies.now) spans.word)
+        (the_anonymous_type (program_in bodies.now) spans.word (type_view ty.now)) spans.word
+        spans.name spans.whole (map seen arguments.items) ((known_in bodies.now).captures
+        (scope_seen scope.now).place (anonymous_at (program_in bodies.now) spans.word)))) }
 {
     let program = &bodies.calls.program;
     let class = bodies.spots.anonymous(program.source.sites, spans.word);

@@ -1,12 +1,13 @@
-// Variables, by what they are for, and names before a point (JLS 6.5.2, 6.5.6, 15.11).
+// Variables, by what they are for, names before a point, and objects round this one (JLS 6.5.2, 6.5.6, 15.8.4, 15.11).
 
 ghost use Rattle.std.specs.Prelude.{◌≡◌, IfErr, IfOk, option_map};
+ghost use Rattle.je_ast.specs.Types.{name_view};
 ghost use Rattle.je_ast.specs.View.{node_view, view};
 ghost use Rattle.je_typing.specs.Answers.{IsFault};
 ghost use Rattle.je_typing.specs.Judged.{Judged, bind, gives};
 ghost use Rattle.je_typing.specs.Typed.{TypedNode};
 ghost use Rattle.name_typing.specs.Accesses.{super_field as the_super_field};
-ghost use Rattle.body_typing.specs.Expressions.{before, named_before as the_named_before, one_more, selected as the_selected, simple as the_simple, taken_for};
+ghost use Rattle.body_typing.specs.Expressions.{before, named_before as the_named_before, one_more, outer as the_outer, selected as the_selected, simple as the_simple, taken_for};
 ghost use Rattle.body_scopes.specs.View.{scope_seen};
 ghost use Rattle.name_steps.specs.Qualifiers.{qualifier_seen};
 ghost use Rattle.typed_nodes.specs.Seen.{seen};
@@ -15,8 +16,9 @@ ghost use Rattle.body_walks.specs.Walks.{known_in, program_in};
 
 use crate::purpose::Purpose;
 use body_scopes::Scope;
+use body_type_steps::outer;
 use body_walks::Bodies;
-use je_ast::{Expr, Identifier};
+use je_ast::{Expr, Identifier, Name};
 use je_base::Span;
 use je_typing::Refusal;
 use member_values::taken;
@@ -28,15 +30,15 @@ use typed_nodes::TypedExpr;
 
 /// A simple name.
 pub fn simple(
-    bodies: Bodies,
+    bodies: &Bodies,
     scope: &Scope,
     purpose: Purpose,
     id: Identifier,
 ) -> Result<TypedExpr, Refusal>
-    ensures ok { IfOk result (λ t. the_simple (program_in bodies.entry) (known_in bodies.entry)
+    ensures ok { IfOk result (λ t. the_simple (program_in bodies.now) (known_in bodies.now)
         (scope_seen scope.now) (purpose_seen purpose.entry) id ≡ gives (seen t)) }
-    ensures err { IfErr result (IsFault (the_simple (program_in bodies.entry)
-        (known_in bodies.entry) (scope_seen scope.now) (purpose_seen purpose.entry) id)) }
+    ensures err { IfErr result (IsFault (the_simple (program_in bodies.now)
+        (known_in bodies.now) (scope_seen scope.now) (purpose_seen purpose.entry) id)) }
 {
     let program = &bodies.calls.program;
     match purpose {
@@ -48,18 +50,18 @@ pub fn simple(
 
 /// A name behind a point.
 pub fn selected(
-    bodies: Bodies,
+    bodies: &Bodies,
     scope: &Scope,
     purpose: Purpose,
     id: Identifier,
     span: Span,
     on: Qualifier,
 ) -> Result<TypedExpr, Refusal>
-    ensures ok { IfOk result (λ t. the_selected (program_in bodies.entry) (known_in bodies.entry)
+    ensures ok { IfOk result (λ t. the_selected (program_in bodies.now) (known_in bodies.now)
         (scope_seen scope.now) (purpose_seen purpose.entry) id span (qualifier_seen on)
         ≡ gives (seen t)) }
-    ensures err { IfErr result (IsFault (the_selected (program_in bodies.entry)
-        (known_in bodies.entry) (scope_seen scope.now) (purpose_seen purpose.entry) id span
+    ensures err { IfErr result (IsFault (the_selected (program_in bodies.now)
+        (known_in bodies.now) (scope_seen scope.now) (purpose_seen purpose.entry) id span
         (qualifier_seen on))) }
 {
     let program = &bodies.calls.program;
@@ -74,20 +76,20 @@ pub fn selected(
 /// `super.x`; `word` is the span of `super`.
 #[tactic(auto, using(je_typing::proofs::Walks::walks))]
 pub fn super_selected(
-    bodies: Bodies,
+    bodies: &Bodies,
     scope: &Scope,
     purpose: Purpose,
     word: Span,
     id: Identifier,
     span: Span,
 ) -> Result<TypedExpr, Refusal>
-    ensures ok { IfOk result (λ t. bind (the_super_field (program_in bodies.entry)
+    ensures ok { IfOk result (λ t. bind (the_super_field (program_in bodies.now)
         (scope_seen scope.now).place word id span) (λ field. gives (taken_for
-        (program_in bodies.entry) (known_in bodies.entry) (scope_seen scope.now)
+        (program_in bodies.now) (known_in bodies.now) (scope_seen scope.now)
         (purpose_seen purpose.entry) field)) ≡ gives (seen t)) }
-    ensures err { IfErr result (IsFault (bind (the_super_field (program_in bodies.entry)
+    ensures err { IfErr result (IsFault (bind (the_super_field (program_in bodies.now)
         (scope_seen scope.now).place word id span) (λ field. gives (taken_for
-        (program_in bodies.entry) (known_in bodies.entry) (scope_seen scope.now)
+        (program_in bodies.now) (known_in bodies.now) (scope_seen scope.now)
         (purpose_seen purpose.entry) field)))) }
 {
     let program = &bodies.calls.program;
@@ -104,16 +106,16 @@ pub fn super_selected(
 #[cycle(names)]
 #[tactic(auto, using(je_ast::proofs::Views::view_is))]
 pub fn named_before(
-    bodies: Bodies,
+    bodies: &Bodies,
     scope: &Scope,
     expr: &Expr,
 ) -> Result<Option<Qualifier>, Refusal>
-    ensures ok { IfOk result (λ on. the_named_before (program_in bodies.entry)
-        (known_in bodies.entry) (scope_seen scope.now) (view expr.now)
+    ensures ok { IfOk result (λ on. the_named_before (program_in bodies.now)
+        (known_in bodies.now) (scope_seen scope.now) (view expr.now)
         ≡ option_map (λ q. gives (qualifier_seen q)) on) }
     ensures err { IfErr result (λ refusal. (other : Judged TypedNode) → IsFault
-        (before (program_in bodies.entry) (known_in bodies.entry) (scope_seen scope.now)
-        (the_named_before (program_in bodies.entry) (known_in bodies.entry) (scope_seen scope.now)
+        (before (program_in bodies.now) (known_in bodies.now) (scope_seen scope.now)
+        (the_named_before (program_in bodies.now) (known_in bodies.now) (scope_seen scope.now)
         (view expr.now)) other) refusal) }
 {
     named_before_here(bodies, scope, expr)
@@ -121,16 +123,16 @@ pub fn named_before(
 
 #[cycle(names)]
 fn named_before_here(
-    bodies: Bodies,
+    bodies: &Bodies,
     scope: &Scope,
     expr: &Expr,
 ) -> Result<Option<Qualifier>, Refusal>
-    ensures ok { IfOk result (λ on. the_named_before (program_in bodies.entry)
-        (known_in bodies.entry) (scope_seen scope.now) (node_view expr.now)
+    ensures ok { IfOk result (λ on. the_named_before (program_in bodies.now)
+        (known_in bodies.now) (scope_seen scope.now) (node_view expr.now)
         ≡ option_map (λ q. gives (qualifier_seen q)) on) }
     ensures err { IfErr result (λ refusal. (other : Judged TypedNode) → IsFault
-        (before (program_in bodies.entry) (known_in bodies.entry) (scope_seen scope.now)
-        (the_named_before (program_in bodies.entry) (known_in bodies.entry) (scope_seen scope.now)
+        (before (program_in bodies.now) (known_in bodies.now) (scope_seen scope.now)
+        (the_named_before (program_in bodies.now) (known_in bodies.now) (scope_seen scope.now)
         (node_view expr.now)) other) refusal) }
 {
     match expr {
@@ -151,20 +153,20 @@ fn named_before_here(
 #[cycle(names)]
 #[tactic(auto, using(crate::proofs::Before::further))]
 fn selected_before(
-    bodies: Bodies,
+    bodies: &Bodies,
     scope: &Scope,
     object: &Expr,
     id: Identifier,
     span: Span,
 ) -> Result<Option<Qualifier>, Refusal>
-    ensures ok { IfOk result (λ on. one_more (program_in bodies.entry) (known_in bodies.entry)
-        (scope_seen scope.now) id span (the_named_before (program_in bodies.entry)
-        (known_in bodies.entry) (scope_seen scope.now) (view object.now))
+    ensures ok { IfOk result (λ on. one_more (program_in bodies.now) (known_in bodies.now)
+        (scope_seen scope.now) id span (the_named_before (program_in bodies.now)
+        (known_in bodies.now) (scope_seen scope.now) (view object.now))
         ≡ option_map (λ q. gives (qualifier_seen q)) on) }
     ensures err { IfErr result (λ refusal. (other : Judged TypedNode) → IsFault
-        (before (program_in bodies.entry) (known_in bodies.entry) (scope_seen scope.now)
-        (one_more (program_in bodies.entry) (known_in bodies.entry) (scope_seen scope.now) id span
-        (the_named_before (program_in bodies.entry) (known_in bodies.entry) (scope_seen scope.now)
+        (before (program_in bodies.now) (known_in bodies.now) (scope_seen scope.now)
+        (one_more (program_in bodies.now) (known_in bodies.now) (scope_seen scope.now) id span
+        (the_named_before (program_in bodies.now) (known_in bodies.now) (scope_seen scope.now)
         (view object.now))) other) refusal) }
 {
     match named_before(bodies, scope, object)? {
@@ -174,4 +176,19 @@ fn selected_before(
         }
         None => Ok(None),
     }
+}
+
+/// `A.this`
+pub fn outer_of(
+    bodies: &Bodies,
+    scope: &Scope,
+    class: &Name,
+    word: Span,
+) -> Result<TypedExpr, Refusal>
+    ensures ok { IfOk result (λ t. the_outer (program_in bodies.now) (known_in bodies.now)
+        (scope_seen scope.now) (name_view class.now) word ≡ gives (seen t)) }
+    ensures err { IfErr result (IsFault (the_outer (program_in bodies.now)
+        (known_in bodies.now) (scope_seen scope.now) (name_view class.now) word)) }
+{
+    outer(&bodies.calls.program, scope.place(), class, word)
 }

@@ -7,7 +7,7 @@ ghost use Rattle.je_ast.specs.declared.operator.PrefixOp.TheVariants.{Minus as t
 ghost use Rattle.je_typing.specs.Answers.{IsFault};
 ghost use Rattle.je_typing.specs.Judged.{Judged, gives};
 ghost use Rattle.je_typing.specs.Typed.{TypedNode};
-ghost use Rattle.body_typing.specs.Expressions.{negative_literal as the_negative_literal, or_else, prefix_purpose as the_prefix_purpose, prefix_step as the_prefix_step, step_of as the_step_of, target_purpose as the_target_purpose};
+ghost use Rattle.body_typing.specs.Expressions.{is_variable as the_is_variable, negative_literal as the_negative_literal, or_else, prefix_purpose as the_prefix_purpose, prefix_step as the_prefix_step, step_of as the_step_of, target_purpose as the_target_purpose};
 ghost use Rattle.body_scopes.specs.View.{scope_seen};
 ghost use Rattle.typed_nodes.specs.Seen.{seen};
 ghost use Rattle.type_expr.specs.Seen.{purpose_seen};
@@ -43,6 +43,27 @@ pub fn prefix_purpose(op: PrefixOp) -> Purpose<'static>
     match op {
         PrefixOp::Increment | PrefixOp::Decrement => Purpose::Updated,
         PrefixOp::Plus | PrefixOp::Minus | PrefixOp::Not | PrefixOp::Tilde => Purpose::Read,
+    }
+}
+
+/// Whether an expression is written as a variable (JLS 15.26): a name, a field or an element, in brackets or not.
+#[cycle(variable)]
+#[tactic(auto, using(je_ast::proofs::Views::view_is))]
+pub fn is_variable(e: &Expr) -> bool
+    ensures { result ≡ the_is_variable (view e.now) }
+{
+    is_variable_here(e)
+}
+
+#[cycle(variable)]
+fn is_variable_here(e: &Expr) -> bool
+    ensures { result ≡ the_is_variable (node_view e.now) }
+{
+    match e {
+        Expr::Name { .. } | Expr::Select { .. } | Expr::SuperSelect { .. } | Expr::Index { .. } =>
+            true,
+        Expr::Parens { inner, .. } => is_variable(inner),
+        _ => false,
     }
 }
 
@@ -110,19 +131,21 @@ fn negated(
     }
 }
 
-/// A prefix operator, of an operand that is judged.
+/// A prefix operator, of an operand that is judged, and written as a variable or not.
 pub fn prefix_step(
-    bodies: Bodies,
+    bodies: &Bodies,
     scope: &Scope,
     op: PrefixOp,
     at: Span,
     span: Span,
     operand: Part,
+    is_variable: bool,
 ) -> Result<TypedExpr, Refusal>
-    ensures ok { IfOk result (λ t. the_prefix_step (program_in bodies.entry) (known_in bodies.entry)
-        (scope_seen scope.now) op at operand.span span (seen operand.value) ≡ gives (seen t)) }
-    ensures err { IfErr result (IsFault (the_prefix_step (program_in bodies.entry)
-        (known_in bodies.entry) (scope_seen scope.now) op at operand.span span
+    ensures ok { IfOk result (λ t. the_prefix_step (program_in bodies.now) (known_in bodies.now)
+        (scope_seen scope.now) op at operand.span is_variable span (seen operand.value)
+        ≡ gives (seen t)) }
+    ensures err { IfErr result (IsFault (the_prefix_step (program_in bodies.now)
+        (known_in bodies.now) (scope_seen scope.now) op at operand.span is_variable span
         (seen operand.value))) }
 {
     let alloc = bodies.calls.program.source.alloc;
@@ -131,7 +154,25 @@ pub fn prefix_step(
         PrefixOp::Minus => unary(alloc, UnOp::Minus, at, span, operand.value),
         PrefixOp::Not => unary(alloc, UnOp::Not, at, span, operand.value),
         PrefixOp::Tilde => unary(alloc, UnOp::Tilde, at, span, operand.value),
-        PrefixOp::Increment => counted(bodies, scope, BinOp::Add, false, at, span, operand),
-        PrefixOp::Decrement => counted(bodies, scope, BinOp::Sub, false, at, span, operand),
+        PrefixOp::Increment => counted(
+            bodies,
+            scope,
+            BinOp::Add,
+            false,
+            at,
+            span,
+            operand,
+            is_variable,
+        ),
+        PrefixOp::Decrement => counted(
+            bodies,
+            scope,
+            BinOp::Sub,
+            false,
+            at,
+            span,
+            operand,
+            is_variable,
+        ),
     }
 }

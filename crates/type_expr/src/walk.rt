@@ -3,12 +3,12 @@
 ghost use Rattle.std.specs.Prelude.{◌≡◌, IfErr, IfOk, map};
 ghost use Rattle.je_ast.specs.Spans.{span_of};
 ghost use Rattle.je_ast.specs.Trees as tree;
-ghost use Rattle.je_ast.specs.Types.{name_view, type_view};
+ghost use Rattle.je_ast.specs.Types.{type_view};
 ghost use Rattle.je_ast.specs.View.{node_view, view, views_of};
 ghost use Rattle.je_typing.specs.Answers.{IsFault};
 ghost use Rattle.je_typing.specs.Judged.{gives};
 ghost use Rattle.name_types.specs.View.{shown};
-ghost use Rattle.body_typing.specs.Expressions.{element_or as the_element_or, initial, outer as the_outer, read};
+ghost use Rattle.body_typing.specs.Expressions.{element_or as the_element_or, initial, read};
 ghost use Rattle.operator_steps.specs.Parts.{part_seen};
 ghost use Rattle.body_scopes.specs.View.{scope_seen};
 ghost use Rattle.body_walks.specs.Walks.{HasAllMethods, known_in, program_in};
@@ -23,16 +23,18 @@ ghost use Rattle.type_expr.specs.way.Lists.{parts_in};
 use crate::arrays::{array_over, element_or, made_with_elements, made_with_lengths};
 use crate::assignments::{assigned_to, counted};
 use crate::creations::{created, created_with_body, name_span};
-use crate::names::{named_before, selected, simple, super_selected};
-use crate::operators::{negative_literal, prefix_purpose, prefix_step, step_of, target_purpose};
+use crate::names::{named_before, outer_of, selected, simple, super_selected};
+use crate::operators::{
+    is_variable, negative_literal, prefix_purpose, prefix_step, step_of, target_purpose,
+};
 use crate::purpose::Purpose;
 use body_places::this;
 use body_scopes::Scope;
-use body_type_steps::{bare_type, body_type, outer};
+use body_type_steps::{bare_type, body_type};
 use body_walks::Bodies;
 use call_steps::{CreationSpans, call_on, receiver_of, simple_call, super_call, used};
 use expr_steps::literal;
-use je_ast::{BinaryOp, Expr, Identifier, Name, PostfixOp, PrefixOp, TyName};
+use je_ast::{BinaryOp, Expr, Identifier, PostfixOp, PrefixOp, TyName};
 use je_base::Span;
 use je_typing::{Refusal, TypeFault, TypeRule};
 use name_steps::Qualifier;
@@ -47,15 +49,15 @@ use written_types::span_of as span_of_type;
 #[cycle(expression)]
 #[tactic(auto, using(je_ast::proofs::Views::view_is))]
 pub fn elab_expr(
-    bodies: Bodies,
+    bodies: &Bodies,
     scope: &Scope,
     purpose: Purpose,
     expr: &Expr,
 ) -> Result<TypedExpr, Refusal>
-    requires { HasAllMethods bodies }
-    ensures ok { IfOk result (λ t. expression_in bodies.entry scope.now (purpose_seen purpose.entry)
+    requires { HasAllMethods bodies.now }
+    ensures ok { IfOk result (λ t. expression_in bodies.now scope.now (purpose_seen purpose.entry)
         (view expr.now) ≡ gives (seen t)) }
-    ensures err { IfErr result (IsFault (expression_in bodies.entry scope.now (purpose_seen
+    ensures err { IfErr result (IsFault (expression_in bodies.now scope.now (purpose_seen
         purpose.entry) (view expr.now))) }
 {
     elab_here(bodies, scope, purpose, expr)
@@ -64,15 +66,15 @@ pub fn elab_expr(
 #[cycle(expression)]
 #[tactic(auto, using(je_typing::proofs::Walks::walks))]
 fn elab_here(
-    bodies: Bodies,
+    bodies: &Bodies,
     scope: &Scope,
     purpose: Purpose,
     expr: &Expr,
 ) -> Result<TypedExpr, Refusal>
-    requires { HasAllMethods bodies }
-    ensures ok { IfOk result (λ t. expression_in bodies.entry scope.now (purpose_seen purpose.entry)
+    requires { HasAllMethods bodies.now }
+    ensures ok { IfOk result (λ t. expression_in bodies.now scope.now (purpose_seen purpose.entry)
         (node_view expr.now) ≡ gives (seen t)) }
-    ensures err { IfErr result (IsFault (expression_in bodies.entry scope.now (purpose_seen
+    ensures err { IfErr result (IsFault (expression_in bodies.now scope.now (purpose_seen
         purpose.entry) (node_view expr.now))) }
 {
     let program = &bodies.calls.program;
@@ -182,31 +184,21 @@ fn elab_here(
     }
 }
 
-// `A.this`
-fn outer_of(bodies: Bodies, scope: &Scope, class: &Name, word: Span) -> Result<TypedExpr, Refusal>
-    ensures ok { IfOk result (λ t. the_outer (program_in bodies.entry) (known_in bodies.entry)
-        (scope_seen scope.now) (name_view class.now) word ≡ gives (seen t)) }
-    ensures err { IfErr result (IsFault (the_outer (program_in bodies.entry)
-        (known_in bodies.entry) (scope_seen scope.now) (name_view class.now) word)) }
-{
-    outer(&bodies.calls.program, scope.place(), class, word)
-}
-
 // `e.x`
 #[cycle(expression)]
 #[tactic(auto, using(je_typing::proofs::Walks::walks))]
 fn select(
-    bodies: Bodies,
+    bodies: &Bodies,
     scope: &Scope,
     purpose: Purpose,
     object: &Expr,
     id: Identifier,
     span: Span,
 ) -> Result<TypedExpr, Refusal>
-    requires { HasAllMethods bodies }
-    ensures ok { IfOk result (λ t. expression_in bodies.entry scope.now (purpose_seen purpose.entry)
+    requires { HasAllMethods bodies.now }
+    ensures ok { IfOk result (λ t. expression_in bodies.now scope.now (purpose_seen purpose.entry)
         (tree.select (view object.now) id span) ≡ gives (seen t)) }
-    ensures err { IfErr result (IsFault (expression_in bodies.entry scope.now (purpose_seen
+    ensures err { IfErr result (IsFault (expression_in bodies.now scope.now (purpose_seen
         purpose.entry) (tree.select (view object.now) id span))) }
 {
     let on = before(bodies, scope, object)?;
@@ -217,16 +209,16 @@ fn select(
 #[cycle(expression)]
 #[tactic(auto, using(je_typing::proofs::Walks::walks))]
 fn call(
-    bodies: Bodies,
+    bodies: &Bodies,
     scope: &Scope,
     id: Identifier,
     args: &[Expr],
     span: Span,
 ) -> Result<TypedExpr, Refusal>
-    requires { HasAllMethods bodies }
-    ensures ok { IfOk result (λ t. expression_in bodies.entry scope.now read (tree.call id (views_of
+    requires { HasAllMethods bodies.now }
+    ensures ok { IfOk result (λ t. expression_in bodies.now scope.now read (tree.call id (views_of
         args.now) span) ≡ gives (seen t)) }
-    ensures err { IfErr result (IsFault (expression_in bodies.entry scope.now read (tree.call id
+    ensures err { IfErr result (IsFault (expression_in bodies.now scope.now read (tree.call id
         (views_of args.now) span))) }
 {
     let args = values(bodies, scope, args)?;
@@ -237,17 +229,17 @@ fn call(
 #[cycle(expression)]
 #[tactic(auto, unfolding(crate::specs::way::Calls::called_on), using(je_typing::proofs::Walks::walks))]
 fn call_of(
-    bodies: Bodies,
+    bodies: &Bodies,
     scope: &Scope,
     object: &Expr,
     id: Identifier,
     args: &[Expr],
     span: Span,
 ) -> Result<TypedExpr, Refusal>
-    requires { HasAllMethods bodies }
-    ensures ok { IfOk result (λ t. called_on bodies.entry scope.now (view object.now) id
+    requires { HasAllMethods bodies.now }
+    ensures ok { IfOk result (λ t. called_on bodies.now scope.now (view object.now) id
         (views_of args.now) span ≡ gives (seen t)) }
-    ensures err { IfErr result (IsFault (called_on bodies.entry scope.now (view object.now) id
+    ensures err { IfErr result (IsFault (called_on bodies.now scope.now (view object.now) id
         (views_of args.now) span)) }
 {
     let on = before(bodies, scope, object)?;
@@ -260,17 +252,17 @@ fn call_of(
 #[cycle(expression)]
 #[tactic(auto, using(je_typing::proofs::Walks::walks))]
 fn call_of_super(
-    bodies: Bodies,
+    bodies: &Bodies,
     scope: &Scope,
     word: Span,
     id: Identifier,
     args: &[Expr],
     span: Span,
 ) -> Result<TypedExpr, Refusal>
-    requires { HasAllMethods bodies }
-    ensures ok { IfOk result (λ t. expression_in bodies.entry scope.now read (tree.super_call word
+    requires { HasAllMethods bodies.now }
+    ensures ok { IfOk result (λ t. expression_in bodies.now scope.now read (tree.super_call word
         id (views_of args.now) span) ≡ gives (seen t)) }
-    ensures err { IfErr result (IsFault (expression_in bodies.entry scope.now read (tree.super_call
+    ensures err { IfErr result (IsFault (expression_in bodies.now scope.now read (tree.super_call
         word id (views_of args.now) span))) }
 {
     let args = values(bodies, scope, args)?;
@@ -281,16 +273,16 @@ fn call_of_super(
 #[cycle(expression)]
 #[tactic(auto, using(je_typing::proofs::Walks::walks))]
 fn index(
-    bodies: Bodies,
+    bodies: &Bodies,
     scope: &Scope,
     array: &Expr,
     at: &Expr,
     span: Span,
 ) -> Result<TypedExpr, Refusal>
-    requires { HasAllMethods bodies }
-    ensures ok { IfOk result (λ t. expression_in bodies.entry scope.now read (tree.index (view
+    requires { HasAllMethods bodies.now }
+    ensures ok { IfOk result (λ t. expression_in bodies.now scope.now read (tree.index (view
         array.now) (view at.now) span) ≡ gives (seen t)) }
-    ensures err { IfErr result (IsFault (expression_in bodies.entry scope.now read (tree.index (view
+    ensures err { IfErr result (IsFault (expression_in bodies.now scope.now read (tree.index (view
         array.now) (view at.now) span))) }
 {
     let program = &bodies.calls.program;
@@ -311,17 +303,17 @@ fn index(
 #[cycle(expression)]
 #[tactic(auto, using(je_typing::proofs::Walks::walks))]
 fn new_object(
-    bodies: Bodies,
+    bodies: &Bodies,
     scope: &Scope,
     word: Span,
     args: &[Expr],
     class: &TyName,
     span: Span,
 ) -> Result<TypedExpr, Refusal>
-    requires { HasAllMethods bodies }
-    ensures ok { IfOk result (λ t. expression_in bodies.entry scope.now read (tree.new_object word
+    requires { HasAllMethods bodies.now }
+    ensures ok { IfOk result (λ t. expression_in bodies.now scope.now read (tree.new_object word
         (type_view class.now) (views_of args.now) span) ≡ gives (seen t)) }
-    ensures err { IfErr result (IsFault (expression_in bodies.entry scope.now read (tree.new_object
+    ensures err { IfErr result (IsFault (expression_in bodies.now scope.now read (tree.new_object
         word (type_view class.now) (views_of args.now) span))) }
 {
     let made = body_type(&bodies.calls.program, &scope.here, class)?;
@@ -338,17 +330,17 @@ fn new_object(
 #[cycle(expression)]
 #[tactic(auto, using(je_typing::proofs::Walks::walks))]
 fn new_array(
-    bodies: Bodies,
+    bodies: &Bodies,
     scope: &Scope,
     lengths: &[Expr],
     of: &TyName,
     dims: usize,
     span: Span,
 ) -> Result<TypedExpr, Refusal>
-    requires { HasAllMethods bodies }
-    ensures ok { IfOk result (λ t. expression_in bodies.entry scope.now read (tree.new_array
+    requires { HasAllMethods bodies.now }
+    ensures ok { IfOk result (λ t. expression_in bodies.now scope.now read (tree.new_array
         (type_view of.now) (views_of lengths.now) dims span) ≡ gives (seen t)) }
-    ensures err { IfErr result (IsFault (expression_in bodies.entry scope.now read (tree.new_array
+    ensures err { IfErr result (IsFault (expression_in bodies.now scope.now read (tree.new_array
         (type_view of.now) (views_of lengths.now) dims span))) }
 {
     let program = &bodies.calls.program;
@@ -363,17 +355,17 @@ fn new_array(
 #[cycle(expression)]
 #[tactic(auto, using(je_typing::proofs::Walks::walks))]
 fn new_array_with(
-    bodies: Bodies,
+    bodies: &Bodies,
     scope: &Scope,
     init: &Expr,
     dims: usize,
     of: &TyName,
     span: Span,
 ) -> Result<TypedExpr, Refusal>
-    requires { HasAllMethods bodies }
-    ensures ok { IfOk result (λ t. expression_in bodies.entry scope.now read (tree.new_array_of
+    requires { HasAllMethods bodies.now }
+    ensures ok { IfOk result (λ t. expression_in bodies.now scope.now read (tree.new_array_of
         (type_view of.now) dims (view init.now) span) ≡ gives (seen t)) }
-    ensures err { IfErr result (IsFault (expression_in bodies.entry scope.now read
+    ensures err { IfErr result (IsFault (expression_in bodies.now scope.now read
         (tree.new_array_of (type_view of.now) dims (view init.now) span))) }
 {
     let program = &bodies.calls.program;
@@ -389,37 +381,38 @@ fn new_array_with(
 #[cycle(expression)]
 #[tactic(auto, using(je_typing::proofs::Walks::walks))]
 fn postfix(
-    bodies: Bodies,
+    bodies: &Bodies,
     scope: &Scope,
     op: PostfixOp,
     at: Span,
     operand: &Expr,
     span: Span,
 ) -> Result<TypedExpr, Refusal>
-    requires { HasAllMethods bodies }
-    ensures ok { IfOk result (λ t. expression_in bodies.entry scope.now read (tree.postfix op at
+    requires { HasAllMethods bodies.now }
+    ensures ok { IfOk result (λ t. expression_in bodies.now scope.now read (tree.postfix op at
         (view operand.now) span) ≡ gives (seen t)) }
-    ensures err { IfErr result (IsFault (expression_in bodies.entry scope.now read (tree.postfix op
+    ensures err { IfErr result (IsFault (expression_in bodies.now scope.now read (tree.postfix op
         at (view operand.now) span))) }
 {
     let target = part(bodies, scope, Purpose::Updated, operand)?;
-    counted(bodies, scope, step_of(op), true, at, span, target)
+    let (step, written) = (step_of(op), is_variable(operand));
+    counted(bodies, scope, step, true, at, span, target, written)
 }
 
 // `(A) e`
 #[cycle(expression)]
 #[tactic(auto, using(je_typing::proofs::Walks::walks))]
 fn cast_to(
-    bodies: Bodies,
+    bodies: &Bodies,
     scope: &Scope,
     operand: &Expr,
     ty: &TyName,
     span: Span,
 ) -> Result<TypedExpr, Refusal>
-    requires { HasAllMethods bodies }
-    ensures ok { IfOk result (λ t. expression_in bodies.entry scope.now read (tree.cast (type_view
+    requires { HasAllMethods bodies.now }
+    ensures ok { IfOk result (λ t. expression_in bodies.now scope.now read (tree.cast (type_view
         ty.now) (view operand.now) span) ≡ gives (seen t)) }
-    ensures err { IfErr result (IsFault (expression_in bodies.entry scope.now read (tree.cast
+    ensures err { IfErr result (IsFault (expression_in bodies.now scope.now read (tree.cast
         (type_view ty.now) (view operand.now) span))) }
 {
     let program = &bodies.calls.program;
@@ -433,17 +426,17 @@ fn cast_to(
 #[cycle(expression)]
 #[tactic(auto, using(je_typing::proofs::Walks::walks))]
 fn tested(
-    bodies: Bodies,
+    bodies: &Bodies,
     scope: &Scope,
     at: Span,
     operand: &Expr,
     ty: &TyName,
     span: Span,
 ) -> Result<TypedExpr, Refusal>
-    requires { HasAllMethods bodies }
-    ensures ok { IfOk result (λ t. expression_in bodies.entry scope.now read (tree.instance_of at
+    requires { HasAllMethods bodies.now }
+    ensures ok { IfOk result (λ t. expression_in bodies.now scope.now read (tree.instance_of at
         (view operand.now) (type_view ty.now) span) ≡ gives (seen t)) }
-    ensures err { IfErr result (IsFault (expression_in bodies.entry scope.now read (tree.instance_of
+    ensures err { IfErr result (IsFault (expression_in bodies.now scope.now read (tree.instance_of
         at (view operand.now) (type_view ty.now) span))) }
 {
     let program = &bodies.calls.program;
@@ -464,7 +457,7 @@ fn tested(
 #[cycle(expression)]
 #[tactic(auto, using(je_typing::proofs::Walks::walks))]
 fn operation(
-    bodies: Bodies,
+    bodies: &Bodies,
     scope: &Scope,
     op: BinaryOp,
     at: Span,
@@ -472,10 +465,10 @@ fn operation(
     right: &Expr,
     span: Span,
 ) -> Result<TypedExpr, Refusal>
-    requires { HasAllMethods bodies }
-    ensures ok { IfOk result (λ t. expression_in bodies.entry scope.now read (tree.binary op at
+    requires { HasAllMethods bodies.now }
+    ensures ok { IfOk result (λ t. expression_in bodies.now scope.now read (tree.binary op at
         (view left.now) (view right.now) span) ≡ gives (seen t)) }
-    ensures err { IfErr result (IsFault (expression_in bodies.entry scope.now read (tree.binary op
+    ensures err { IfErr result (IsFault (expression_in bodies.now scope.now read (tree.binary op
         at (view left.now) (view right.now) span))) }
 {
     let program = &bodies.calls.program;
@@ -489,7 +482,7 @@ fn operation(
 #[cycle(expression)]
 #[tactic(auto, using(je_typing::proofs::Walks::walks))]
 fn conditional(
-    bodies: Bodies,
+    bodies: &Bodies,
     scope: &Scope,
     at: Span,
     condition: &Expr,
@@ -497,10 +490,10 @@ fn conditional(
     no: &Expr,
     span: Span,
 ) -> Result<TypedExpr, Refusal>
-    requires { HasAllMethods bodies }
-    ensures ok { IfOk result (λ t. expression_in bodies.entry scope.now read (tree.conditional at
+    requires { HasAllMethods bodies.now }
+    ensures ok { IfOk result (λ t. expression_in bodies.now scope.now read (tree.conditional at
         (view condition.now) (view yes.now) (view no.now) span) ≡ gives (seen t)) }
-    ensures err { IfErr result (IsFault (expression_in bodies.entry scope.now read (tree.conditional
+    ensures err { IfErr result (IsFault (expression_in bodies.now scope.now read (tree.conditional
         at (view condition.now) (view yes.now) (view no.now) span))) }
 {
     let program = &bodies.calls.program;
@@ -523,7 +516,7 @@ fn conditional(
 #[cycle(expression)]
 #[tactic(auto, using(je_typing::proofs::Walks::walks))]
 fn assign(
-    bodies: Bodies,
+    bodies: &Bodies,
     scope: &Scope,
     op: Option<BinaryOp>,
     at: Span,
@@ -531,32 +524,33 @@ fn assign(
     value: &Expr,
     span: Span,
 ) -> Result<TypedExpr, Refusal>
-    requires { HasAllMethods bodies }
-    ensures ok { IfOk result (λ t. expression_in bodies.entry scope.now read (tree.assign op at
+    requires { HasAllMethods bodies.now }
+    ensures ok { IfOk result (λ t. expression_in bodies.now scope.now read (tree.assign op at
         (view place.now) (view value.now) span) ≡ gives (seen t)) }
-    ensures err { IfErr result (IsFault (expression_in bodies.entry scope.now read (tree.assign op
+    ensures err { IfErr result (IsFault (expression_in bodies.now scope.now read (tree.assign op
         at (view place.now) (view value.now) span))) }
 {
     let target = part(bodies, scope, target_purpose(op), place)?;
     let value = part(bodies, scope, Purpose::Read, value)?;
-    assigned_to(bodies, scope, op, at, span, target, value)
+    let written = is_variable(place);
+    assigned_to(bodies, scope, op, at, span, target, written, value)
 }
 
 // `new A(e, ..) { .. }`, which members make no difference to
 #[cycle(expression)]
 #[tactic(auto, using(je_typing::proofs::Walks::walks))]
 fn new_with_body(
-    bodies: Bodies,
+    bodies: &Bodies,
     scope: &Scope,
     word: Span,
     args: &[Expr],
     class: &TyName,
     span: Span,
 ) -> Result<TypedExpr, Refusal>
-    requires { HasAllMethods bodies }
-    ensures ok { IfOk result (λ t. expression_in bodies.entry scope.now read (tree.new_anonymous
+    requires { HasAllMethods bodies.now }
+    ensures ok { IfOk result (λ t. expression_in bodies.now scope.now read (tree.new_anonymous
         word (type_view class.now) (views_of args.now) tree.no_members span) ≡ gives (seen t)) }
-    ensures err { IfErr result (IsFault (expression_in bodies.entry scope.now read
+    ensures err { IfErr result (IsFault (expression_in bodies.now scope.now read
         (tree.new_anonymous word (type_view class.now) (views_of args.now) tree.no_members span))) }
 {
     let args = values(bodies, scope, args)?;
@@ -571,16 +565,16 @@ fn new_with_body(
 // An array initializer, which stands only where a type is known.
 #[cycle(expression)]
 fn initialized(
-    bodies: Bodies,
+    bodies: &Bodies,
     scope: &Scope,
     purpose: Purpose,
     exprs: &[Expr],
     span: Span,
 ) -> Result<TypedExpr, Refusal>
-    requires { HasAllMethods bodies }
-    ensures ok { IfOk result (λ t. expression_in bodies.entry scope.now (purpose_seen purpose.entry)
+    requires { HasAllMethods bodies.now }
+    ensures ok { IfOk result (λ t. expression_in bodies.now scope.now (purpose_seen purpose.entry)
         (tree.array_init (views_of exprs.now) span) ≡ gives (seen t)) }
-    ensures err { IfErr result (IsFault (expression_in bodies.entry scope.now (purpose_seen
+    ensures err { IfErr result (IsFault (expression_in bodies.now scope.now (purpose_seen
         purpose.entry) (tree.array_init (views_of exprs.now) span))) }
 {
     match purpose {
@@ -592,14 +586,13 @@ fn initialized(
     }
 }
 
-// The lengths of a new array.
 #[cycle(expression)]
 #[tactic(auto, using(crate::proofs::Lists::lengths_are))]
-fn lengths_of(bodies: Bodies, scope: &Scope, exprs: &[Expr]) -> Result<Vec<Part>, Refusal>
-    requires { HasAllMethods bodies }
-    ensures ok { IfOk result (λ ps. lengths_in bodies.entry scope.now (views_of exprs.now) ≡ gives
+fn lengths_of(bodies: &Bodies, scope: &Scope, exprs: &[Expr]) -> Result<Vec<Part>, Refusal>
+    requires { HasAllMethods bodies.now }
+    ensures ok { IfOk result (λ ps. lengths_in bodies.now scope.now (views_of exprs.now) ≡ gives
         (map part_seen ps.items)) }
-    ensures err { IfErr result (IsFault (lengths_in bodies.entry scope.now (views_of exprs.now))) }
+    ensures err { IfErr result (IsFault (lengths_in bodies.now scope.now (views_of exprs.now))) }
 {
     parts(bodies, scope, Purpose::Read, exprs)
 }
@@ -608,15 +601,15 @@ fn lengths_of(bodies: Bodies, scope: &Scope, exprs: &[Expr]) -> Result<Vec<Part>
 #[cycle(expression)]
 #[tactic(auto, using(je_typing::proofs::Walks::walks))]
 pub fn value(
-    bodies: Bodies,
+    bodies: &Bodies,
     scope: &Scope,
     purpose: Purpose,
     expr: &Expr,
 ) -> Result<TypedExpr, Refusal>
-    requires { HasAllMethods bodies }
-    ensures ok { IfOk result (λ t. value_in bodies.entry scope.now (purpose_seen purpose.entry)
+    requires { HasAllMethods bodies.now }
+    ensures ok { IfOk result (λ t. value_in bodies.now scope.now (purpose_seen purpose.entry)
         (view expr.now) ≡ gives (seen t)) }
-    ensures err { IfErr result (IsFault (value_in bodies.entry scope.now (purpose_seen
+    ensures err { IfErr result (IsFault (value_in bodies.now scope.now (purpose_seen
         purpose.entry) (view expr.now))) }
 {
     let judged = elab_expr(bodies, scope, purpose, expr)?;
@@ -625,12 +618,12 @@ pub fn value(
 
 // The same, with where it is written.
 #[cycle(expression)]
-fn part(bodies: Bodies, scope: &Scope, purpose: Purpose, expr: &Expr) -> Result<Part, Refusal>
-    requires { HasAllMethods bodies }
-    ensures ok { IfOk result (λ p. value_in bodies.entry scope.now (purpose_seen purpose.entry)
+fn part(bodies: &Bodies, scope: &Scope, purpose: Purpose, expr: &Expr) -> Result<Part, Refusal>
+    requires { HasAllMethods bodies.now }
+    ensures ok { IfOk result (λ p. value_in bodies.now scope.now (purpose_seen purpose.entry)
         (view expr.now) ≡ gives (seen p.value)) }
     ensures span { IfOk result (λ p. p.span ≡ span_of (view expr.now)) }
-    ensures err { IfErr result (IsFault (value_in bodies.entry scope.now (purpose_seen
+    ensures err { IfErr result (IsFault (value_in bodies.now scope.now (purpose_seen
         purpose.entry) (view expr.now))) }
 {
     let value = value(bodies, scope, purpose, expr)?;
@@ -641,11 +634,11 @@ fn part(bodies: Bodies, scope: &Scope, purpose: Purpose, expr: &Expr) -> Result<
 /// The values of expressions that are read.
 #[cycle(expression)]
 #[tactic(auto, using(crate::proofs::Lists::value_lists, je_typing::proofs::Walks::walks))]
-pub fn values(bodies: Bodies, scope: &Scope, exprs: &[Expr]) -> Result<Vec<TypedExpr>, Refusal>
-    requires { HasAllMethods bodies }
-    ensures ok { IfOk result (λ ts. values_in bodies.entry scope.now (views_of exprs.now) ≡ gives
+pub fn values(bodies: &Bodies, scope: &Scope, exprs: &[Expr]) -> Result<Vec<TypedExpr>, Refusal>
+    requires { HasAllMethods bodies.now }
+    ensures ok { IfOk result (λ ts. values_in bodies.now scope.now (views_of exprs.now) ≡ gives
         (map seen ts.items)) }
-    ensures err { IfErr result (IsFault (values_in bodies.entry scope.now (views_of exprs.now))) }
+    ensures err { IfErr result (IsFault (values_in bodies.now scope.now (views_of exprs.now))) }
 {
     let mut values = Vec::new(bodies.calls.program.source.alloc);
     for expr in exprs {
@@ -659,15 +652,15 @@ pub fn values(bodies: Bodies, scope: &Scope, exprs: &[Expr]) -> Result<Vec<Typed
 #[cycle(expression)]
 #[tactic(auto, using(crate::proofs::Lists::part_lists, je_typing::proofs::Walks::walks))]
 fn parts(
-    bodies: Bodies,
+    bodies: &Bodies,
     scope: &Scope,
     purpose: Purpose,
     exprs: &[Expr],
 ) -> Result<Vec<Part>, Refusal>
-    requires { HasAllMethods bodies }
-    ensures ok { IfOk result (λ ps. parts_in bodies.entry scope.now (purpose_seen purpose.entry)
+    requires { HasAllMethods bodies.now }
+    ensures ok { IfOk result (λ ps. parts_in bodies.now scope.now (purpose_seen purpose.entry)
         (views_of exprs.now) ≡ gives (map part_seen ps.items)) }
-    ensures err { IfErr result (IsFault (parts_in bodies.entry scope.now (purpose_seen
+    ensures err { IfErr result (IsFault (parts_in bodies.now scope.now (purpose_seen
         purpose.entry) (views_of exprs.now))) }
 {
     let mut parts = Vec::new(bodies.calls.program.source.alloc);
@@ -678,19 +671,18 @@ fn parts(
     Ok(parts)
 }
 
-// The elements of an array initializer for an array of a type.
 #[cycle(expression)]
 #[tactic(auto, using(crate::proofs::Lists::elements_are, je_typing::proofs::Walks::walks))]
 fn elements_of(
-    bodies: Bodies,
+    bodies: &Bodies,
     scope: &Scope,
     exprs: &[Expr],
     ty: &SrcTy,
 ) -> Result<Vec<Part>, Refusal>
-    requires { HasAllMethods bodies }
-    ensures ok { IfOk result (λ ps. elements_for_in bodies.entry scope.now (the_element_or (shown
+    requires { HasAllMethods bodies.now }
+    ensures ok { IfOk result (λ ps. elements_for_in bodies.now scope.now (the_element_or (shown
         ty.now)) (views_of exprs.now) ≡ gives (map part_seen ps.items)) }
-    ensures err { IfErr result (IsFault (elements_for_in bodies.entry scope.now (the_element_or
+    ensures err { IfErr result (IsFault (elements_for_in bodies.now scope.now (the_element_or
         (shown ty.now)) (views_of exprs.now))) }
 {
     let element = element_or(bodies.calls.program.source.alloc, ty)?;
@@ -700,11 +692,16 @@ fn elements_of(
 // The same of what stands behind the brackets of a new array.
 #[cycle(expression)]
 #[tactic(auto, using(je_ast::proofs::Views::view_is))]
-fn elements_in(bodies: Bodies, scope: &Scope, expr: &Expr, ty: &SrcTy) -> Result<Vec<Part>, Refusal>
-    requires { HasAllMethods bodies }
-    ensures ok { IfOk result (λ ps. elements_behind bodies.entry scope.now (shown ty.now) (view
+fn elements_in(
+    bodies: &Bodies,
+    scope: &Scope,
+    expr: &Expr,
+    ty: &SrcTy,
+) -> Result<Vec<Part>, Refusal>
+    requires { HasAllMethods bodies.now }
+    ensures ok { IfOk result (λ ps. elements_behind bodies.now scope.now (shown ty.now) (view
         expr.now) ≡ gives (map part_seen ps.items)) }
-    ensures err { IfErr result (IsFault (elements_behind bodies.entry scope.now (shown ty.now) (view
+    ensures err { IfErr result (IsFault (elements_behind bodies.now scope.now (shown ty.now) (view
         expr.now))) }
 {
     elements_here(bodies, scope, expr, ty)
@@ -712,15 +709,15 @@ fn elements_in(bodies: Bodies, scope: &Scope, expr: &Expr, ty: &SrcTy) -> Result
 
 #[cycle(expression)]
 fn elements_here(
-    bodies: Bodies,
+    bodies: &Bodies,
     scope: &Scope,
     expr: &Expr,
     ty: &SrcTy,
 ) -> Result<Vec<Part>, Refusal>
-    requires { HasAllMethods bodies }
-    ensures ok { IfOk result (λ ps. elements_behind bodies.entry scope.now (shown ty.now) (node_view
+    requires { HasAllMethods bodies.now }
+    ensures ok { IfOk result (λ ps. elements_behind bodies.now scope.now (shown ty.now) (node_view
         expr.now) ≡ gives (map part_seen ps.items)) }
-    ensures err { IfErr result (IsFault (elements_behind bodies.entry scope.now (shown ty.now)
+    ensures err { IfErr result (IsFault (elements_behind bodies.now scope.now (shown ty.now)
         (node_view expr.now))) }
 {
     match expr {
@@ -729,20 +726,19 @@ fn elements_here(
     }
 }
 
-// An array initializer for a type.
 #[cycle(expression)]
 #[tactic(auto, using(je_typing::proofs::Walks::walks))]
 fn initializer(
-    bodies: Bodies,
+    bodies: &Bodies,
     scope: &Scope,
     exprs: &[Expr],
     ty: &SrcTy,
     span: Span,
 ) -> Result<TypedExpr, Refusal>
-    requires { HasAllMethods bodies }
-    ensures ok { IfOk result (λ t. expression_in bodies.entry scope.now (initial (shown ty.now))
+    requires { HasAllMethods bodies.now }
+    ensures ok { IfOk result (λ t. expression_in bodies.now scope.now (initial (shown ty.now))
         (tree.array_init (views_of exprs.now) span) ≡ gives (seen t)) }
-    ensures err { IfErr result (IsFault (expression_in bodies.entry scope.now (initial (shown
+    ensures err { IfErr result (IsFault (expression_in bodies.now scope.now (initial (shown
         ty.now)) (tree.array_init (views_of exprs.now) span))) }
 {
     let program = &bodies.calls.program;
@@ -752,14 +748,13 @@ fn initializer(
     array_of(alloc, program.heads, ty, span, elements)
 }
 
-// What stands before a point.
 #[cycle(expression)]
 #[tactic(auto, using(crate::proofs::Before::before_points))]
-fn before(bodies: Bodies, scope: &Scope, expr: &Expr) -> Result<Qualifier, Refusal>
-    requires { HasAllMethods bodies }
-    ensures ok { IfOk result (λ q. before_in bodies.entry scope.now (view expr.now) ≡ gives
+fn before(bodies: &Bodies, scope: &Scope, expr: &Expr) -> Result<Qualifier, Refusal>
+    requires { HasAllMethods bodies.now }
+    ensures ok { IfOk result (λ q. before_in bodies.now scope.now (view expr.now) ≡ gives
         (qualifier_seen q)) }
-    ensures err { IfErr result (IsFault (before_in bodies.entry scope.now (view expr.now))) }
+    ensures err { IfErr result (IsFault (before_in bodies.now scope.now (view expr.now))) }
 {
     let named = named_before(bodies, scope, expr)?;
     match named {
@@ -774,22 +769,22 @@ fn before(bodies: Bodies, scope: &Scope, expr: &Expr) -> Result<Qualifier, Refus
 #[cycle(expression)]
 #[tactic(auto, using(je_typing::proofs::Walks::walks, crate::proofs::Before::literals))]
 fn prefix(
-    bodies: Bodies,
+    bodies: &Bodies,
     scope: &Scope,
     op: PrefixOp,
     at: Span,
     operand: &Expr,
     span: Span,
 ) -> Result<TypedExpr, Refusal>
-    requires { HasAllMethods bodies }
-    ensures ok { IfOk result (λ t. prefixed_in bodies.entry scope.now op at (view operand.now) span
+    requires { HasAllMethods bodies.now }
+    ensures ok { IfOk result (λ t. prefixed_in bodies.now scope.now op at (view operand.now) span
         ≡ gives (seen t)) }
-    ensures err { IfErr result (IsFault (prefixed_in bodies.entry scope.now op at (view operand.now)
+    ensures err { IfErr result (IsFault (prefixed_in bodies.now scope.now op at (view operand.now)
         span)) }
 {
     if let Some(literal) = negative_literal(bodies.calls.program.source.alloc, op, operand, span)? {
         return Ok(literal);
     }
-    let operand = part(bodies, scope, prefix_purpose(op), operand)?;
-    prefix_step(bodies, scope, op, at, span, operand)
+    let judged = part(bodies, scope, prefix_purpose(op), operand)?;
+    prefix_step(bodies, scope, op, at, span, judged, is_variable(operand))
 }

@@ -101,23 +101,23 @@ module _ (w : Walk) (j : Targets) (label : Option Identifier) (s : Scope) (pr : 
             (fault_of (λ i. if_statement word (sym written i) t (sym a i) (a_stmt (sym a' i))) h))))
 
     -- of a `switch`
-    module _ (gs : Groups) (inner : Targets) (of_enum : Option ℕ) (inside : inner ≡ in_switch j) (o : of_enum ≡ enum_of (program_of w).heads t.type) where
-      pub switch_fails : IsFault (groups (program_of w) (known_of w) (returning_of w) inner of_enum s p gs) r → IsFault (statement_by w j label s pr (a_switch word c gs)) r
+    module _ (gs : Groups) (span : Span) (inner : Targets) (of_enum : Option ℕ) (inside : inner ≡ in_switch j) (o : of_enum ≡ enum_of (program_of w).heads t.type) where
+      pub switch_fails : IsFault (groups (program_of w) (known_of w) (returning_of w) inner of_enum s p gs) r → IsFault (statement_by w j label s pr (a_switch word c gs span)) r
       switch_fails h =
           fault_later (valued (program_of w) (known_of w) (returning_of w) s c) _ t r asked
           (bind_faults (groups (program_of w) (known_of w) (returning_of w) (in_switch j) (enum_of (program_of w).heads t.type) s (behind (program_of w) s c pr) gs) _ r
           (fault_of (λ i. groups (program_of w) (known_of w) (returning_of w) (sym inside i) (sym o i) s (sym met i) gs) h))
 
       pub switch_code_fails : (ds : GroupsDone) (by : TypedNode) → groups (program_of w) (known_of w) (returning_of w) inner of_enum s p gs ≡ gives ds →
-          by ≡ selected_by of_enum t → IsFault (switch_judged (program_of w) (known_of w) (returning_of w) word c by ds) r →
-          IsFault (statement_by w j label s pr (a_switch word c gs)) r
+          by ≡ selected_by of_enum t → IsFault (switch_judged (program_of w) (known_of w) (returning_of w) word span c by ds) r →
+          IsFault (statement_by w j label s pr (a_switch word c gs span)) r
       switch_code_fails ds by e b h =
           fault_later (valued (program_of w) (known_of w) (returning_of w) s c) _ t r asked
           (fault_later (groups (program_of w) (known_of w) (returning_of w) (in_switch j) (enum_of (program_of w).heads t.type) s (behind (program_of w) s c pr) gs) _ ds r
           ((λ i. groups (program_of w) (known_of w) (returning_of w) (sym inside i) (sym o i) s (sym met i) gs) ∙ e)
-          (bind_faults (switch_judged (program_of w) (known_of w) (returning_of w) word c (selected_by (enum_of (program_of w).heads t.type) t) ds) _ r
-          (fault_of (ap (λ (n : Option ℕ). switch_judged (program_of w) (known_of w) (returning_of w) word c (selected_by n t) ds) (sym o)
-          ∙ ap (λ (n : TypedNode). switch_judged (program_of w) (known_of w) (returning_of w) word c n ds) (sym b)) h)))
+          (bind_faults (switch_judged (program_of w) (known_of w) (returning_of w) word span c (selected_by (enum_of (program_of w).heads t.type) t) ds) _ r
+          (fault_of (ap (λ (n : Option ℕ). switch_judged (program_of w) (known_of w) (returning_of w) word span c (selected_by n t) ds) (sym o)
+          ∙ ap (λ (n : TypedNode). switch_judged (program_of w) (known_of w) (returning_of w) word span c n ds) (sym b)) h)))
 
   module _ (word : Span) (b : Statement) (c : Expression) (inner : Targets) (d : Done) (u : Scope) (inside : inner ≡ in_loop j)
       (e : statement_by w inner None s pr b ≡ gives d) (l : u ≡ s) where

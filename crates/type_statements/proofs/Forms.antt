@@ -89,19 +89,19 @@ module _ (w : Walk) (j : Targets) (label : Option Identifier) (s : Scope) (pr : 
         ((λ i. if_statement word (sym written i) t (sym a i) (a_stmt (sym a' i))) ∙ g)
         ∙ stands_alone code s v d'.progress whole (l' ∙ l) f
 
-  pub switch_is : (word : Span) (e : Expression) (gs : Groups) (t by : TypedNode) (p : Progress) (inner : Targets) (of_enum : Option ℕ) (ds : GroupsDone)
+  pub switch_is : (word : Span) (e : Expression) (gs : Groups) (span : Span) (t by : TypedNode) (p : Progress) (inner : Targets) (of_enum : Option ℕ) (ds : GroupsDone)
       (u : Scope) (code : CoreStmt) (whole : Done) →
       valued (program_of w) (known_of w) (returning_of w) s e ≡ gives t → p ≡ behind (program_of w) s e pr → inner ≡ in_switch j →
       of_enum ≡ enum_of (program_of w).heads t.type → groups (program_of w) (known_of w) (returning_of w) inner of_enum s p gs ≡ gives ds → u ≡ s →
-      by ≡ selected_by of_enum t → switch_judged (program_of w) (known_of w) (returning_of w) word e by ds ≡ gives code → whole ≡ one code u ds.progress →
-      statement_by w j label s pr (a_switch word e gs) ≡ gives whole
-  switch_is word e gs t by p inner of_enum ds u code whole asked met t' o h l b g f =
+      by ≡ selected_by of_enum t → switch_judged (program_of w) (known_of w) (returning_of w) word span e by ds ≡ gives code → whole ≡ one code u ds.progress →
+      statement_by w j label s pr (a_switch word e gs span) ≡ gives whole
+  switch_is word e gs span t by p inner of_enum ds u code whole asked met t' o h l b g f =
       bind_gives (valued (program_of w) (known_of w) (returning_of w) s e) _ t asked
       ∙ bind_gives (groups (program_of w) (known_of w) (returning_of w) (in_switch j) (enum_of (program_of w).heads t.type) s (behind (program_of w) s e pr) gs) _ ds
       ((λ i. groups (program_of w) (known_of w) (returning_of w) (sym t' i) (sym o i) s (sym met i) gs) ∙ h)
-      ∙ bind_gives (switch_judged (program_of w) (known_of w) (returning_of w) word e (selected_by (enum_of (program_of w).heads t.type) t) ds) _ code
-      (ap (λ (n : Option ℕ). switch_judged (program_of w) (known_of w) (returning_of w) word e (selected_by n t) ds) (sym o)
-      ∙ ap (λ (n : TypedNode). switch_judged (program_of w) (known_of w) (returning_of w) word e n ds) (sym b) ∙ g)
+      ∙ bind_gives (switch_judged (program_of w) (known_of w) (returning_of w) word span e (selected_by (enum_of (program_of w).heads t.type) t) ds) _ code
+      (ap (λ (n : Option ℕ). switch_judged (program_of w) (known_of w) (returning_of w) word span e (selected_by n t) ds) (sym o)
+      ∙ ap (λ (n : TypedNode). switch_judged (program_of w) (known_of w) (returning_of w) word span e n ds) (sym b) ∙ g)
       ∙ stands_alone code s u ds.progress whole l f
 
   -- the block of a `try`, and the catches behind it

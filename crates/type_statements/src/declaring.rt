@@ -71,7 +71,7 @@ fn initial_value(
     ty: &SrcTy,
     expr: &Expr,
 ) -> Result<TypedExpr, Refusal>
-    requires { HasAllMethods walk.bodies }
+    requires { HasAllMethods walk.bodies.now }
     ensures ok { IfOk result (λ t. the_value (expression (program_of walk.entry)
         (known_of walk.entry)
         (with_local variable.is_final (local_seen variable) (scope_seen scope.old))
@@ -107,7 +107,8 @@ fn initialized<'a>(
         (view expr.now) (node_seen node)) }
     ensures extends { OnOk result (Extends (scope_seen scope.old) (scope_seen scope.new)) }
 {
-    let program = &walk.bodies.calls.program;
+    let bodies = walk.bodies;
+    let program = &bodies.calls.program;
     let number = variable.number;
     let whole = assigned_to(program, &variable, name, span(expr), node)?;
     let is_final = declared.is_final;
@@ -139,7 +140,7 @@ fn with_initializer<'a>(
     ty: &SrcTy,
     expr: &'a Expr,
 ) -> Result<Done, Refusal>
-    requires { HasAllMethods walk.bodies }
+    requires { HasAllMethods walk.bodies.now }
     ensures ok { IfOk result (λ d. the_with_initializer (program_of walk.entry)
         (known_of walk.entry) declared.entry.is_final declared.entry.start
         (type_view declared.entry.written.now) (shown declared.entry.ty.now)
@@ -153,7 +154,8 @@ fn with_initializer<'a>(
         (shown ty.now) (view expr.now))) }
 {
     let alloc = alloc(walk);
-    let heads = walk.bodies.calls.program.heads;
+    let bodies = walk.bodies;
+    let heads = bodies.calls.program.heads;
     let is_final = declared.is_final;
     let number = next_number(progress)?;
     let variable = local_of(alloc, var.name.name, ty, is_final, number, None)?;
@@ -196,7 +198,8 @@ fn without_initializer(
     judge_declared(declared.written, var.dims, var.name)?;
     let number = next_number(progress)?;
     let variable = local_of(alloc(walk), var.name.name, ty, is_final, number, None)?;
-    let heads = walk.bodies.calls.program.heads;
+    let bodies = walk.bodies;
+    let heads = bodies.calls.program.heads;
     add_number(heads, progress, var.name.name, ty, is_final, var.name.span)?;
     scope.add_local(false, variable)?;
     let mut done = nothing(alloc(walk));
@@ -213,7 +216,7 @@ fn variable_of<'a>(
     var: &'a Var,
     ty: &SrcTy,
 ) -> Result<Done, Refusal>
-    requires methods { HasAllMethods walk.bodies }
+    requires methods { HasAllMethods walk.bodies.now }
     requires counted { shown ty.now ≡ in_limit (with_dims (shown declared.ty.now) var.now.dims) }
     ensures ok { IfOk result (λ d. the_variable (program_of walk.entry) (known_of walk.entry)
         declared.entry.is_final declared.entry.start (type_view declared.entry.written.now)
@@ -241,7 +244,7 @@ fn variable<'a>(
     progress: &mut Progress<'a>,
     var: &'a Var,
 ) -> Result<Done, Refusal>
-    requires methods { HasAllMethods walk.bodies }
+    requires methods { HasAllMethods walk.bodies.now }
     requires few { in_limit (shown declared.ty.now) ≡ shown declared.ty.now }
     ensures ok { IfOk result (λ d. the_variable (program_of walk.entry) (known_of walk.entry)
         declared.entry.is_final declared.entry.start (type_view declared.entry.written.now)
@@ -268,7 +271,7 @@ fn variables<'a>(
     progress: &mut Progress<'a>,
     vars: &'a [Var],
 ) -> Result<Done, Refusal>
-    requires methods { HasAllMethods walk.bodies }
+    requires methods { HasAllMethods walk.bodies.now }
     requires few { in_limit (shown declared.ty.now) ≡ shown declared.ty.now }
     ensures ok { IfOk result (λ d. the_variables (program_of walk.entry) (known_of walk.entry)
         declared.entry.is_final declared.entry.start (type_view declared.entry.written.now)
@@ -299,7 +302,7 @@ pub fn locals<'a>(
     written: &TyName,
     vars: &'a [Var],
 ) -> Result<Done, Refusal>
-    requires { HasAllMethods walk.bodies }
+    requires { HasAllMethods walk.bodies.now }
     ensures ok { IfOk result (λ d. the_locals (program_of walk.entry) (known_of walk.entry)
         (returning_of walk.entry) (scope_seen scope.old) (progress_seen progress.old) is_final start
         (type_view written.now) (variable_views_of vars.now)
@@ -310,7 +313,8 @@ pub fn locals<'a>(
         (progress_seen progress.old) is_final start (type_view written.now)
         (variable_views_of vars.now))) }
 {
-    let ty = body_type(&walk.bodies.calls.program, &scope.here, written)?;
+    let bodies = walk.bodies;
+    let ty = body_type(&bodies.calls.program, &scope.here, written)?;
     let declared = Declared {
         is_final,
         start,

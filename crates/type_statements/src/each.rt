@@ -68,7 +68,8 @@ fn for_each_code(
         ty,
     } = elements;
     let alloc = alloc(walk);
-    let heads = walk.bodies.calls.program.heads;
+    let bodies = walk.bodies;
+    let heads = bodies.calls.program.heads;
     let at = span(written);
     let each = Each {
         heads,
@@ -101,21 +102,22 @@ fn element_of(alloc: Global, written: &Expr, array: &TypedExpr) -> Result<SrcTy,
 
 // An element, converted to the variable's type.
 #[tactic(auto, using(je_typing::proofs::Walks::walks))]
-fn element_as(walk: Walk, elements: &Elements, of: SrcTy) -> Result<Node, Refusal>
+fn element_as<'a>(walk: Walk<'a>, elements: &'a Elements<'a>, of: SrcTy) -> Result<Node, Refusal>
     requires { elements.now.local + 2 < 2 ^ 32 }
-    ensures ok { IfOk result (λ n. the_assigned (heads_of walk.entry.bodies.calls.program.heads.now)
+    ensures ok { IfOk result (λ n. the_assigned (heads_of walk.entry.bodies.now.calls.program.heads.now)
         (shown elements.now.ty.now) (span_of (view elements.now.written.now))
-        (the_element (heads_of walk.entry.bodies.calls.program.heads.now)
+        (the_element (heads_of walk.entry.bodies.now.calls.program.heads.now)
         (span_of (view elements.now.written.now)) (seen elements.now.array) elements.now.local
         (shown of)) ≡ gives (node_seen n)) }
     ensures err { IfErr result (IsFault (the_assigned
-        (heads_of walk.entry.bodies.calls.program.heads.now)
+        (heads_of walk.entry.bodies.now.calls.program.heads.now)
         (shown elements.now.ty.now) (span_of (view elements.now.written.now))
-        (the_element (heads_of walk.entry.bodies.calls.program.heads.now)
+        (the_element (heads_of walk.entry.bodies.now.calls.program.heads.now)
         (span_of (view elements.now.written.now)) (seen elements.now.array) elements.now.local
         (shown of)))) }
 {
-    let heads = walk.bodies.calls.program.heads;
+    let bodies = walk.bodies;
+    let heads = bodies.calls.program.heads;
     let at = span(elements.written);
     let each = Each {
         heads,

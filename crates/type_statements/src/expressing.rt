@@ -49,7 +49,7 @@ pub fn expressed<'a>(
     progress: &mut Progress<'a>,
     expr: &'a Expr,
 ) -> Result<TypedExpr, Refusal>
-    requires { HasAllMethods walk.bodies }
+    requires { HasAllMethods walk.bodies.now }
     ensures ok { IfOk result (λ t. expression (program_of walk.entry) (known_of walk.entry)
         (scope_seen scope.now) read (view expr.now) ≡ gives (seen t)) }
     ensures met { OnOk result (progress_seen progress.new ≡ behind (program_of walk.entry)
@@ -69,7 +69,7 @@ pub fn valued<'a>(
     progress: &mut Progress<'a>,
     expr: &'a Expr,
 ) -> Result<TypedExpr, Refusal>
-    requires { HasAllMethods walk.bodies }
+    requires { HasAllMethods walk.bodies.now }
     ensures ok { IfOk result (λ t. the_valued (program_of walk.entry) (known_of walk.entry)
         (returning_of walk.entry) (scope_seen scope.now) (view expr.now) ≡ gives (seen t)) }
     ensures met { OnOk result (progress_seen progress.new ≡ behind (program_of walk.entry)
@@ -89,7 +89,7 @@ pub fn condition_or<'a>(
     word: Span,
     condition: &'a Option<Expr>,
 ) -> Result<TypedExpr, Refusal>
-    requires { HasAllMethods walk.bodies }
+    requires { HasAllMethods walk.bodies.now }
     ensures ok { IfOk result (λ t. the_condition_or (program_of walk.entry) (known_of walk.entry)
         (returning_of walk.entry) (scope_seen scope.now) word (view_of_option condition.now)
         ≡ gives (seen t)) }
@@ -125,7 +125,7 @@ pub fn steps<'a>(
     progress: &mut Progress<'a>,
     list: &'a [Expr],
 ) -> Result<Vec<Rc<Node>>, Refusal>
-    requires { HasAllMethods walk.bodies }
+    requires { HasAllMethods walk.bodies.now }
     ensures ok { IfOk result (λ nodes. the_steps (program_of walk.entry) (known_of walk.entry)
         (returning_of walk.entry) (scope_seen scope.now) (progress_seen progress.old)
         (views_of list.now)
@@ -150,7 +150,7 @@ pub fn performed_steps<'a>(
     progress: &mut Progress<'a>,
     list: &'a [Expr],
 ) -> Result<Done, Refusal>
-    requires { HasAllMethods walk.bodies }
+    requires { HasAllMethods walk.bodies.now }
     ensures ok { IfOk result (λ d. the_performed_steps (program_of walk.entry)
         (known_of walk.entry) (returning_of walk.entry) (scope_seen scope.now)
         (progress_seen progress.old) (views_of list.now)

@@ -36,7 +36,7 @@ pub fn for_start<'a>(
     progress: &mut Progress<'a>,
     init: &'a ForInit,
 ) -> Result<Done, Refusal>
-    requires { HasAllMethods walk.bodies }
+    requires { HasAllMethods walk.bodies.now }
     ensures ok { IfOk result (λ d. the_for_start (program_of walk.entry) (known_of walk.entry)
         (returning_of walk.entry) (scope_seen scope.old) (progress_seen progress.old)
         (for_initializer_view init.now) ≡ gives (done_seen d scope.new progress.new)) }
@@ -55,7 +55,7 @@ fn for_start_here<'a>(
     progress: &mut Progress<'a>,
     init: &'a ForInit,
 ) -> Result<Done, Refusal>
-    requires { HasAllMethods walk.bodies }
+    requires { HasAllMethods walk.bodies.now }
     ensures ok { IfOk result (λ d. the_for_start (program_of walk.entry) (known_of walk.entry)
         (returning_of walk.entry) (scope_seen scope.old) (progress_seen progress.old)
         (for_initializer_node_view init.now) ≡ gives (done_seen d scope.new progress.new)) }

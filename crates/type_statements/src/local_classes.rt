@@ -63,7 +63,8 @@ fn judge_new(walk: Walk, scope: &Scope, name: Identifier) -> Result<(), Refusal>
     ensures err { IfErr result (IsFault (the_check LocalTwice name.span (not (the_has_class
         (program_of walk.entry) (scope_seen scope.now) name.name)))) }
 {
-    let sites = walk.bodies.calls.program.source.sites;
+    let bodies = walk.bodies;
+    let sites = bodies.calls.program.source.sites;
     let is_new = !has_class(sites, &scope.here.local_classes, name.name);
     check(TypeRule::LocalTwice, name.span, is_new)
 }
@@ -118,8 +119,9 @@ fn class_named(
         (scope_seen scope.old) (progress_seen progress.old) name)) }
 {
     judge_new(walk, scope, name)?;
-    let sites = walk.bodies.calls.program.source.sites;
-    let class = walk.bodies.spots.declared(sites, name);
+    let bodies = walk.bodies;
+    let sites = bodies.calls.program.source.sites;
+    let class = bodies.spots.declared(sites, name);
     let done = added_class(walk, scope, progress, class)?;
     Ok(done)
 }

@@ -29,7 +29,7 @@ pub fn expression_statement<'a>(
     start: Span,
     expr: &'a Expr,
 ) -> Result<Done, Refusal>
-    requires { HasAllMethods walk.bodies }
+    requires { HasAllMethods walk.bodies.now }
     ensures ok { IfOk result (λ d. statement_of walk.entry (scope_seen scope.now)
         (progress_seen progress.old) (an_expression start (view expr.now))
         ≡ gives (done_in d (scope_seen scope.now) (progress_seen progress.new))) }
@@ -52,7 +52,7 @@ pub fn return_statement<'a>(
     word: Span,
     value: &'a Option<Expr>,
 ) -> Result<Done, Refusal>
-    requires { HasAllMethods walk.bodies }
+    requires { HasAllMethods walk.bodies.now }
     ensures ok { IfOk result (λ d. statement_of walk.entry (scope_seen scope.now)
         (progress_seen progress.old) (a_return word (view_of_option value.now))
         ≡ gives (done_in d (scope_seen scope.now) (progress_seen progress.new))) }
@@ -66,7 +66,8 @@ pub fn return_statement<'a>(
         return Ok(whole);
     };
     let made = valued(walk, scope, progress, value)?;
-    let heads = walk.bodies.calls.program.heads;
+    let bodies = walk.bodies;
+    let heads = bodies.calls.program.heads;
     let code = returned_value(alloc(walk), heads, walk.returning, word, span(value), made)?;
     let whole = one(alloc(walk), code)?;
     Ok(whole)
@@ -81,7 +82,7 @@ pub fn throw_statement<'a>(
     word: Span,
     value: &'a Expr,
 ) -> Result<Done, Refusal>
-    requires { HasAllMethods walk.bodies }
+    requires { HasAllMethods walk.bodies.now }
     ensures ok { IfOk result (λ d. statement_of walk.entry (scope_seen scope.now)
         (progress_seen progress.old) (a_throw word (view value.now))
         ≡ gives (done_in d (scope_seen scope.now) (progress_seen progress.new))) }
@@ -89,7 +90,8 @@ pub fn throw_statement<'a>(
         (scope_seen scope.now) (progress_seen progress.old) (a_throw word (view value.now)))) }
 {
     let made = valued(walk, scope, progress, value)?;
-    let heads = walk.bodies.calls.program.heads;
+    let bodies = walk.bodies;
+    let heads = bodies.calls.program.heads;
     let code = thrown(alloc(walk), heads, word, span(value), made)?;
     let whole = one(alloc(walk), code)?;
     Ok(whole)

@@ -53,7 +53,7 @@ fn label_value<'a>(
     progress: &mut Progress<'a>,
     label: &'a Expr,
 ) -> Result<TypedExpr, Refusal>
-    requires { HasAllMethods walk.bodies }
+    requires { HasAllMethods walk.bodies.now }
     ensures ok { IfOk result (λ t. the_label_value (program_of walk.entry) (known_of walk.entry)
         (option_map (λ (c : ClassNumber). c.0) of_enum) (scope_seen scope.now)
         (option_map (λ (c : ClassNumber). c.0) of_enum) (view label.now) ≡ gives (seen t)) }
@@ -68,7 +68,8 @@ fn label_value<'a>(
     let Some(class) = of_enum else {
         return valued(walk, scope, progress, label);
     };
-    let constants = constants(&walk.bodies.calls.program, class);
+    let bodies = walk.bodies;
+    let constants = constants(&bodies.calls.program, class);
     let place = few(constant_place(constants, label))?;
     Ok(place_node(alloc(walk), span(label), place))
 }
@@ -82,7 +83,7 @@ fn label<'a>(
     progress: &mut Progress<'a>,
     label: &'a Label,
 ) -> Result<WrittenLabel, Refusal>
-    requires { HasAllMethods walk.bodies }
+    requires { HasAllMethods walk.bodies.now }
     ensures ok { IfOk result (λ l. one_label walk.entry
         (option_map (λ (c : ClassNumber). c.0) of_enum) (scope_seen scope.now)
         (label_view label.now) ≡ gives (label_seen l)) }
@@ -112,7 +113,7 @@ pub fn labels<'a>(
     progress: &mut Progress<'a>,
     list: &'a [Label],
 ) -> Result<Vec<WrittenLabel>, Refusal>
-    requires { HasAllMethods walk.bodies }
+    requires { HasAllMethods walk.bodies.now }
     ensures ok { IfOk result (λ ls. the_labels (program_of walk.entry) (known_of walk.entry)
         (option_map (λ (c : ClassNumber). c.0) of_enum) (scope_seen scope.now)
         (progress_seen progress.old) (label_views_of list.now) ≡ gives (record {

@@ -51,7 +51,7 @@ pub fn statements<'a>(
     progress: &mut Progress<'a>,
     list: &'a [Stmt],
 ) -> Result<Done, Refusal>
-    requires { HasAllMethods walk.bodies }
+    requires { HasAllMethods walk.bodies.now }
     ensures ok { IfOk result (λ d. statements_by walk.entry targets.now (scope_seen scope.old)
         (progress_seen progress.old) (statement_views_of list.now)
         ≡ gives (done_seen d scope.new progress.new)) }
@@ -77,7 +77,7 @@ fn statement<'a>(
     progress: &mut Progress<'a>,
     stmt: &'a Stmt,
 ) -> Result<Done, Refusal>
-    requires { HasAllMethods walk.bodies }
+    requires { HasAllMethods walk.bodies.now }
     ensures ok { IfOk result (λ d. statement_by walk.entry targets.now label (scope_seen scope.old)
         (progress_seen progress.old) (statement_view stmt.now)
         ≡ gives (done_seen d scope.new progress.new)) }
@@ -98,7 +98,7 @@ fn statement_here<'a>(
     progress: &mut Progress<'a>,
     stmt: &'a Stmt,
 ) -> Result<Done, Refusal>
-    requires { HasAllMethods walk.bodies }
+    requires { HasAllMethods walk.bodies.now }
     ensures ok { IfOk result (λ d. statement_by walk.entry targets.now label (scope_seen scope.old)
         (progress_seen progress.old) (statement_node_view stmt.now)
         ≡ gives (done_seen d scope.new progress.new)) }
@@ -186,8 +186,10 @@ fn statement_here<'a>(
             first,
             selector,
             groups,
-            ..
-        } => switch(walk, targets, scope, progress, *first, selector, groups),
+            span,
+        } => switch(
+            walk, targets, scope, progress, *first, selector, groups, *span,
+        ),
         Stmt::Break { first, label, .. } => jump_statement(walk, targets, false, *first, *label),
         Stmt::Continue { first, label, .. } => jump_statement(walk, targets, true, *first, *label),
         Stmt::Return { first, value, .. } => {
@@ -222,7 +224,7 @@ fn inner_block<'a>(
     progress: &mut Progress<'a>,
     block: &'a Block,
 ) -> Result<Done, Refusal>
-    requires { HasAllMethods walk.bodies }
+    requires { HasAllMethods walk.bodies.now }
     ensures ok { IfOk result (λ d. statement_by walk.entry targets.now None (scope_seen scope.old)
         (progress_seen progress.old) (a_block (block_view block.now))
         ≡ gives (done_seen d scope.new progress.new)) }
@@ -248,7 +250,7 @@ fn labelled<'a>(
     label: Identifier,
     body: &'a Stmt,
 ) -> Result<Done, Refusal>
-    requires { HasAllMethods walk.bodies }
+    requires { HasAllMethods walk.bodies.now }
     ensures ok { IfOk result (λ d. statement_by walk.entry targets.now None (scope_seen scope.old)
         (progress_seen progress.old) (a_labelled label (statement_view body.now))
         ≡ gives (done_seen d scope.new progress.new)) }
@@ -282,7 +284,7 @@ fn if_only<'a>(
     condition: &'a Expr,
     yes: &'a Stmt,
 ) -> Result<Done, Refusal>
-    requires { HasAllMethods walk.bodies }
+    requires { HasAllMethods walk.bodies.now }
     ensures ok { IfOk result (λ d. statement_by walk.entry targets.now None (scope_seen scope.old)
         (progress_seen progress.old) (an_if word (view condition.now) (statement_view yes.now))
         ≡ gives (done_seen d scope.new progress.new)) }
@@ -313,7 +315,7 @@ fn if_else<'a>(
     yes: &'a Stmt,
     no: &'a Stmt,
 ) -> Result<Done, Refusal>
-    requires { HasAllMethods walk.bodies }
+    requires { HasAllMethods walk.bodies.now }
     ensures ok { IfOk result (λ d. statement_by walk.entry targets.now None (scope_seen scope.old)
         (progress_seen progress.old) (an_if_else word (view condition.now) (statement_view yes.now)
         (statement_view no.now))
@@ -349,7 +351,7 @@ fn while_loop<'a>(
     condition: &'a Expr,
     body: &'a Stmt,
 ) -> Result<Done, Refusal>
-    requires { HasAllMethods walk.bodies }
+    requires { HasAllMethods walk.bodies.now }
     ensures ok { IfOk result (λ d. statement_by walk.entry targets.now None (scope_seen scope.old)
         (progress_seen progress.old) (a_while word (view condition.now) (statement_view body.now))
         ≡ gives (done_seen d scope.new progress.new)) }
@@ -380,7 +382,7 @@ fn do_while<'a>(
     body: &'a Stmt,
     condition: &'a Expr,
 ) -> Result<Done, Refusal>
-    requires { HasAllMethods walk.bodies }
+    requires { HasAllMethods walk.bodies.now }
     ensures ok { IfOk result (λ d. statement_by walk.entry targets.now None (scope_seen scope.old)
         (progress_seen progress.old) (a_do_while word (statement_view body.now) (view
         condition.now))
@@ -410,7 +412,7 @@ fn for_loop<'a>(
     head: ForHead<'a>,
     body: &'a Stmt,
 ) -> Result<Done, Refusal>
-    requires { HasAllMethods walk.bodies }
+    requires { HasAllMethods walk.bodies.now }
     ensures ok { IfOk result (λ d. statement_by walk.entry targets.now label (scope_seen scope.old)
         (progress_seen progress.old) (a_for head.entry.word (for_initializer_view
         head.entry.init.now)
@@ -448,7 +450,7 @@ fn for_each<'a>(
     head: EachHead<'a>,
     body: &'a Stmt,
 ) -> Result<Done, Refusal>
-    requires { HasAllMethods walk.bodies }
+    requires { HasAllMethods walk.bodies.now }
     ensures ok { IfOk result (λ d. statement_by walk.entry targets.now label (scope_seen scope.old)
         (progress_seen progress.old) (a_for_each head.entry.word head.entry.is_final
         (type_view head.entry.ty.now) head.entry.name (view head.entry.array.now)
@@ -461,7 +463,8 @@ fn for_each<'a>(
         (type_view head.entry.ty.now) head.entry.name (view head.entry.array.now)
         (statement_view body.now)))) }
 {
-    let ty = body_type(&walk.bodies.calls.program, &scope.here, head.ty)?;
+    let bodies = walk.bodies;
+    let ty = body_type(&bodies.calls.program, &scope.here, head.ty)?;
     let local = next_numbers(progress)?;
     let array = valued(walk, scope, progress, head.array)?;
     let depth = scope.depth();
@@ -491,17 +494,20 @@ fn switch<'a>(
     word: Span,
     selector: &'a Expr,
     groups: &'a [Group],
+    whole: Span,
 ) -> Result<Done, Refusal>
-    requires { HasAllMethods walk.bodies }
+    requires { HasAllMethods walk.bodies.now }
     ensures ok { IfOk result (λ d. statement_by walk.entry targets.now None (scope_seen scope.old)
-        (progress_seen progress.old) (a_switch word (view selector.now) (group_views_of groups.now))
+        (progress_seen progress.old)
+        (a_switch word (view selector.now) (group_views_of groups.now) whole)
         ≡ gives (done_seen d scope.new progress.new)) }
     ensures stays { OnOk result (scope_seen scope.new ≡ scope_seen scope.old) }
     ensures err { IfErr result (IsFault (statement_by walk.entry targets.now None
         (scope_seen scope.old) (progress_seen progress.old) (a_switch word (view selector.now)
-        (group_views_of groups.now)))) }
+        (group_views_of groups.now) whole))) }
 {
-    let heads = walk.bodies.calls.program.heads;
+    let bodies = walk.bodies;
+    let heads = bodies.calls.program.heads;
     let asked = valued(walk, scope, progress, selector)?;
     let of_enum = enum_of(heads, &asked.ty);
     let depth = scope.depth();
@@ -509,7 +515,7 @@ fn switch<'a>(
     let done = switch_groups(walk, &inside, of_enum, scope, progress, groups)?;
     scope.leave(depth);
     let by = selected_by(alloc(walk), of_enum, asked)?;
-    let code = switch_judged(walk, word, selector, by, done)?;
+    let code = switch_judged(walk, word, whole, selector, by, done)?;
     let whole = one(alloc(walk), code)?;
     Ok(whole)
 }
@@ -525,7 +531,7 @@ fn try_only<'a>(
     block: &'a Block,
     catches: &'a [Catch],
 ) -> Result<Done, Refusal>
-    requires { HasAllMethods walk.bodies }
+    requires { HasAllMethods walk.bodies.now }
     ensures ok { IfOk result (λ d. statement_by walk.entry targets.now None (scope_seen scope.old)
         (progress_seen progress.old) (a_try word (block_view block.now) (catch_views_of
         catches.now))
@@ -540,7 +546,8 @@ fn try_only<'a>(
     scope.leave(depth);
     let body = block_of(alloc(walk), block.opening, block.closing, done)?;
     let written = catch_blocks(walk, targets, scope, progress, catches)?;
-    let heads = walk.bodies.calls.program.heads;
+    let bodies = walk.bodies;
+    let heads = bodies.calls.program.heads;
     let caught = clauses(alloc(walk), heads, scope, written)?;
     let code = make_try(alloc(walk), word, word, body, caught, None)?;
     let whole = one(alloc(walk), code)?;
@@ -560,7 +567,7 @@ fn try_finally<'a>(
     at: Span,
     last: &'a Block,
 ) -> Result<Done, Refusal>
-    requires { HasAllMethods walk.bodies }
+    requires { HasAllMethods walk.bodies.now }
     ensures ok { IfOk result (λ d. statement_by walk.entry targets.now None (scope_seen scope.old)
         (progress_seen progress.old) (a_try_finally word (block_view block.now) (catch_views_of
         catches.now) at
@@ -581,7 +588,8 @@ fn try_finally<'a>(
     let finished = statements(walk, targets, scope, progress, &last.stmts)?;
     scope.leave(depth);
     let end = block_of(alloc(walk), last.opening, last.closing, finished)?;
-    let heads = walk.bodies.calls.program.heads;
+    let bodies = walk.bodies;
+    let heads = bodies.calls.program.heads;
     let caught = clauses(alloc(walk), heads, scope, written)?;
     let code = make_try(alloc(walk), word, at, body, caught, Some(end))?;
     let whole = one(alloc(walk), code)?;
@@ -598,7 +606,7 @@ fn switch_groups<'a>(
     progress: &mut Progress<'a>,
     list: &'a [Group],
 ) -> Result<Groups, Refusal>
-    requires { HasAllMethods walk.bodies }
+    requires { HasAllMethods walk.bodies.now }
     ensures ok { IfOk result (λ gs. the_groups (program_of walk.entry) (known_of walk.entry)
         (returning_of walk.entry) targets.now (option_map (λ (c : ClassNumber). c.0) of_enum)
         (scope_seen scope.old) (progress_seen progress.old) (group_views_of list.now)
@@ -626,7 +634,7 @@ fn switch_group<'a>(
     progress: &mut Progress<'a>,
     group: &'a Group,
 ) -> Result<WalkedGroup, Refusal>
-    requires { HasAllMethods walk.bodies }
+    requires { HasAllMethods walk.bodies.now }
     ensures ok { IfOk result (λ g. one_group walk.entry targets.now
         (option_map (λ (c : ClassNumber). c.0) of_enum) (scope_seen scope.old)
         (progress_seen progress.old) (group_view group.now)
@@ -653,7 +661,7 @@ fn catch_blocks<'a>(
     progress: &mut Progress<'a>,
     list: &'a [Catch],
 ) -> Result<Vec<Clause>, Refusal>
-    requires { HasAllMethods walk.bodies }
+    requires { HasAllMethods walk.bodies.now }
     ensures ok { IfOk result (λ cs. the_catches (program_of walk.entry) (known_of walk.entry)
         (returning_of walk.entry) targets.now (scope_seen scope.old) (progress_seen progress.old)
         (catch_views_of list.now) ≡ gives (record {
@@ -682,7 +690,7 @@ fn catch_block<'a>(
     progress: &mut Progress<'a>,
     catch: &'a Catch,
 ) -> Result<Clause, Refusal>
-    requires { HasAllMethods walk.bodies }
+    requires { HasAllMethods walk.bodies.now }
     ensures ok { IfOk result (λ c. one_catch walk.entry targets.now (scope_seen scope.old)
         (progress_seen progress.old) (catch_view catch.now) ≡ gives (record {
           clause = clause_seen c;
@@ -693,8 +701,9 @@ fn catch_block<'a>(
         (progress_seen progress.old) (catch_view catch.now))) }
 {
     let name = catch.name;
-    let heads = walk.bodies.calls.program.heads;
-    let ty = bare_class_type(&walk.bodies.calls.program, &scope.here, &catch.class)?;
+    let bodies = walk.bodies;
+    let heads = bodies.calls.program.heads;
+    let ty = bare_class_type(&bodies.calls.program, &scope.here, &catch.class)?;
     let number = next_number(progress)?;
     let variable = local_of(alloc(walk), name.name, &ty, catch.is_final, number, None)?;
     let depth = scope.depth();

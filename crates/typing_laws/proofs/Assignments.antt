@@ -1,5 +1,5 @@
 -- Assignments fit where the variable may be assigned, and both sides fit.
-use Rattle.std.proofs.Common.{◌≡◌, ℕ, zero, suc, ◌≤◌, List, refl, ap, ◌∙◌}
+use Rattle.std.proofs.Common.{◌≡◌, ℕ, zero, suc, ◌≤◌, List, [], refl, sym, ap, ◌∙◌}
 use Rattle.std.specs.Prelude.{Bool, true, false, not, ◌&&◌}
 use Rattle.je_base.specs.declared.span.Span.{Span}
 use Rattle.je_core.specs.declared.expr.BinOp.{BinOp}
@@ -11,7 +11,7 @@ use Rattle.je_core.specs.Core.{Core, CoreForm, CoreProgram, node, form_of, ty_of
 use Rattle.je_classes.specs.Hierarchy.{is_below, object_class, same_class}
 use Rattle.je_classes.specs.Subtypes as types
 use Rattle.je_classes.proofs.Below.{below-itself}
-use Rattle.je_classes.proofs.Same.{same_base-refl}
+use Rattle.je_classes.proofs.Same.{same_base-refl, same_type-equal}
 use Rattle.je_fitting.specs.Expressions.{Body, Fits, IsPlace}
 use Rattle.je_fitting.specs.Expressions as fits
 use Rattle.je_fitting.specs.Operators as core_ops
@@ -26,9 +26,9 @@ use Rattle.je_typing.specs.declared.fault.TypeRule.TheVariants.{BadOperand, BadT
 use Rattle.je_typing.specs.Assignments.{appends, are_numeric, assign_node, assignment, combines, is_place, place, step_node, stepped, update, update_node, updates}
 use Rattle.je_typing.specs.Conversions.{assigned, span_of, token_of}
 use Rattle.je_typing.specs.Judged.{Judged, bind, check, faulty, gives}
-use Rattle.je_typing.specs.Typed.{TypedNode, is_boolean, is_numeric, is_string, is_void}
+use Rattle.je_typing.specs.Typed.{TypedNode, is_boolean, is_numeric, is_string}
 use Rattle.typing_laws.specs.Correspondence.{HasHeads}
-use Rattle.typing_laws.specs.Fitting.{BoundsFit, FitsAs, Gives, stands_once, with_texts}
+use Rattle.typing_laws.specs.Fitting.{BoundsFit, FitsAs, FitsAsVariable, Gives, stands_once, with_texts}
 use Rattle.typing_laws.specs.Laws.{AssignmentsFit, StepsFit, UpdatesFit}
 use Rattle.typing_laws.specs.Passing.{PassesAs}
 use Rattle.typing_laws.proofs.Assigned.{assigned_values_pass}
@@ -67,13 +67,35 @@ module _ (p : CoreProgram) where
   agrees-itself base.Int zero h = or-left true (types.is_subtype p (of base.Int) (of base.Int)) refl
   agrees-itself base.Long zero h = or-left true (types.is_subtype p (of base.Long) (of base.Long)) refl
 
+  -- no type is above a numeric one
+  none-above : (b c : Base) (n : ℕ) → is_number (of b) ≡ true → types.are_below p b 0 c n ≡ true → ⊥
+  none-above base.Byte c zero h e = absurd cc
+  none-above base.Byte c (suc n) h e = absurd cc
+  none-above base.Short c zero h e = absurd cc
+  none-above base.Short c (suc n) h e = absurd cc
+  none-above base.Char c zero h e = absurd cc
+  none-above base.Char c (suc n) h e = absurd cc
+  none-above base.Int c zero h e = absurd cc
+  none-above base.Int c (suc n) h e = absurd cc
+  none-above base.Long c zero h e = absurd cc
+  none-above base.Long c (suc n) h e = absurd cc
+  none-above base.Bool c n h e = absurd cc
+  none-above base.Null c n h e = absurd cc
+  none-above base.Void c n h e = absurd cc
+  none-above (base.Class d) c n h e = absurd cc
+
+  pub number-agrees : (b : Base) (t : Ty) → is_number (of b) ≡ true → agrees p (of b) t ≡ true → t ≡ of b
+  unfolding types.is_subtype
+  number-agrees b t h e = sym (same_type-equal (of b) t (either _ (is_primitive (of b) && types.same_type (of b) t) (types.are_below p b 0 t.base t.dims) e
+      (λ k. (two {a = is_primitive (of b)} k).1) (λ k. absurd (none-above b t.base t.dims h k))))
+
 pub numeric-type : (heads : List ClassHead) (s : SourceType) → is_numeric s ≡ true → is_number (erased heads s) ≡ true
 numeric-type heads (plain b zero) e = ap is_number (erased-plain heads b) ∙ e
 numeric-type heads (plain b (suc n)) e = absurd cc
 numeric-type heads (of_class c ts n) e = absurd cc
 numeric-type heads (of_variable c at n) e = absurd cc
 
-boolean-erased : (heads : List ClassHead) (s : SourceType) → is_boolean s ≡ true → types.same_type (erased heads s) bool ≡ true
+pub boolean-erased : (heads : List ClassHead) (s : SourceType) → is_boolean s ≡ true → types.same_type (erased heads s) bool ≡ true
 boolean-erased heads (plain base.Bool zero) e = ap (λ (u : Ty). types.same_type u bool) (erased-plain heads base.Bool)
 boolean-erased heads (plain base.Byte zero) e = absurd cc
 boolean-erased heads (plain base.Short zero) e = absurd cc
@@ -147,18 +169,14 @@ module _ (p : CoreProgram) (body : Body) (heads : List ClassHead) where
   -- ---- JLS 15.26.1
 
   module _ (at left_span right_span span : Span) (left right : TypedNode) (known : HasHeads p heads) (m : dims_of left.type ≤ 255) (n : dims_of right.type ≤ 255)
-      (value : is_void left.type ≡ false) (is : IsPlace p body (form_of left.node)) (l : FitsAs p body heads left) (r : FitsAs p body heads right) where
-    assign-fits : (v : Core) → PassesAs p body heads left.type v → FitsAs p body heads (assign_node heads at span left v)
+      (is : IsPlace p body (form_of left.node)) (l : FitsAsVariable p body heads left) (r : FitsAs p body heads right) where
+    pub assign-fits : (v : Core) → PassesAs p body heads left.type v → FitsAs p body heads (assign_node heads at span left v)
     assign-fits v passes = record {
       node = λ texts h. let sides = two {a = every (stands_once texts) left.node} (two {a = true} h).1 in
-          fits.assign (whole left.node) (l.node texts sides.0) (with-place texts (form_of left.node) is) (passes.node texts sides.1) (passes.agree texts) (own texts);
+          fits.assign (whole left.node) (l.node texts sides.0) (with-place texts (form_of left.node) is) (passes.node texts sides.1) (passes.agree texts) (l.takes texts);
       uses = no-uses p body heads;
       type = refl;
     }
-      where
-        own : (texts : List (List ℕ)) → agrees (with_texts p texts) (erased heads left.type) (ty_of left.node) ≡ true
-        own texts = ap (agrees (with_texts p texts) (erased heads left.type)) l.type
-            ∙ agrees-itself (with_texts p texts) (erased heads left.type).base (erased heads left.type).dims (erased-not-void heads known.bounds left.type value)
 
     assignment-gives : Gives (FitsAs p body heads) (assignment heads at left_span right_span span left right)
     unfolding assignment bind
@@ -170,36 +188,46 @@ module _ (p : CoreProgram) (body : Body) (heads : List ClassHead) where
 
   -- ---- JLS 15.26.2
 
-  module _ (o : BinOp) (at left_span span : Span) (left right : TypedNode) (bounds : BoundsFit heads) (is : IsPlace p body (form_of left.node)) (l : FitsAs p body heads left) (r : FitsAs p body heads right) where
-    update-fits : updates o left.type right.type ≡ true → FitsAs p body heads (update_node o at span left right.node)
+  module _ (o : BinOp) (at left_span span : Span) (left right : TypedNode) (bounds : BoundsFit heads) (is : IsPlace p body (form_of left.node)) (l : FitsAsVariable p body heads left) (r : FitsAs p body heads right) where
+    update-fits : updates o left.type right.type ≡ true → FitsAs p body heads (update_node heads o at span left right.node)
     update-fits e = record {
       node = λ texts h. let sides = two {a = every (stands_once texts) left.node} (two {a = true} h).1 in
-          fits.update (whole left.node) (l.node texts sides.0) (with-place texts (form_of left.node) is) (r.node texts sides.1) taken;
+          fits.update (whole left.node) (l.node texts sides.0) (with-place texts (form_of left.node) is) (l.takes texts) (r.node texts sides.1) taken;
       uses = no-uses p body heads;
-      type = l.type;
+      type = refl;
     }
       where
-        taken : core_ops.updates o (ty_of left.node) (ty_of right.node) ≡ true
-        taken = ap (λ (u : Ty). core_ops.updates o u (ty_of right.node)) l.type ∙ ap (core_ops.updates o (erased heads left.type)) r.type ∙ updated heads bounds o left.type right.type e
+        taken : core_ops.updates o (erased heads left.type) (ty_of right.node) ≡ true
+        taken = ap (core_ops.updates o (erased heads left.type)) r.type ∙ updated heads bounds o left.type right.type e
 
-    update-gives : Gives (FitsAs p body heads) (update o at left_span span left right)
+    update-gives : Gives (FitsAs p body heads) (update heads o at left_span span left right)
     unfolding update bind check
     update-gives = by (updates o left.type right.type) refl
       where
-        by : (x : Bool) → updates o left.type right.type ≡ x → Gives (FitsAs p body heads) (bind (check BadOperand at x) (λ u. bind (place left_span left) (λ v. gives (update_node o at span left right.node))))
+        by : (x : Bool) → updates o left.type right.type ≡ x → Gives (FitsAs p body heads) (bind (check BadOperand at x) (λ u. bind (place left_span left) (λ v. gives (update_node heads o at span left right.node))))
         by false e = tt
-        by true e = behind-place (FitsAs p body heads) left_span left (update_node o at span left right.node) (update-fits e)
+        by true e = behind-place (FitsAs p body heads) left_span left (update_node heads o at span left right.node) (update-fits e)
 
   -- ---- `++` and `--`
 
-  module _ (o : BinOp) (old : Bool) (at operand_span span : Span) (operand : TypedNode) (step : core_ops.is_step o ≡ true) (is : IsPlace p body (form_of operand.node)) (fit : FitsAs p body heads operand) where
+  -- a variable of a numeric type is declared of that type
+  numeric-same : (s : SourceType) (t : Ty) → is_numeric s ≡ true → agrees (with_texts p []) (erased heads s) t ≡ true → t ≡ erased heads s
+  numeric-same (plain b zero) t h e = number-agrees (with_texts p []) b t h (ap (λ (u : Ty). agrees (with_texts p []) u t) (sym (erased-plain heads b)) ∙ e) ∙ sym (erased-plain heads b)
+  numeric-same (plain b (suc n)) t h e = absurd cc
+  numeric-same (of_class c ts n) t h e = absurd cc
+  numeric-same (of_variable c at n) t h e = absurd cc
+
+  module _ (o : BinOp) (old : Bool) (at operand_span span : Span) (operand : TypedNode) (step : core_ops.is_step o ≡ true) (is : IsPlace p body (form_of operand.node)) (fit : FitsAsVariable p body heads operand) where
     step-fits : is_numeric operand.type ≡ true → FitsAs p body heads (step_node o old at span operand)
     step-fits e = record {
       node = λ texts h. fits.step (whole operand.node) (fit.node texts (two {a = every (stands_once texts) operand.node} (two {a = true} h).1).0) (with-place texts (form_of operand.node) is)
-          (ap is_number fit.type ∙ numeric-type heads operand.type e) step;
+          (ap (λ (u : Ty). agrees (with_texts p texts) u (ty_of operand.node)) same ∙ fit.takes texts) (ap is_number same ∙ numeric-type heads operand.type e) step;
       uses = no-uses p body heads;
-      type = fit.type;
+      type = same;
     }
+      where
+        same : ty_of operand.node ≡ erased heads operand.type
+        same = numeric-same operand.type (ty_of operand.node) e (fit.takes [])
 
     step-gives : Gives (FitsAs p body heads) (stepped o old at operand_span span operand)
     unfolding stepped bind check
@@ -210,7 +238,7 @@ module _ (p : CoreProgram) (body : Body) (heads : List ClassHead) where
         by true e = behind-place (FitsAs p body heads) operand_span operand (step_node o old at span operand) (step-fits e)
 
 pub assignments_fit : (p : CoreProgram) (body : Body) (heads : List ClassHead) → AssignmentsFit p body heads
-assignments_fit p body heads at left_span right_span span left right known m n value is l r = assignment-gives p body heads at left_span right_span span left right known m n value is l r
+assignments_fit p body heads at left_span right_span span left right known m n is l r = assignment-gives p body heads at left_span right_span span left right known m n is l r
 
 pub updates_fit : (p : CoreProgram) (body : Body) (heads : List ClassHead) → UpdatesFit p body heads
 updates_fit p body heads o at left_span span left right bounds is l r = update-gives p body heads o at left_span span left right bounds is l r

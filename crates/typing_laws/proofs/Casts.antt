@@ -17,7 +17,8 @@ use Rattle.je_typing.specs.Operators.{of_base}
 use Rattle.je_typing.specs.Typed.{TypedNode, is_numeric, is_primitive_base}
 use Rattle.typing_laws.specs.Fitting.{FitsAs, Gives}
 use Rattle.typing_laws.specs.Laws.{PrimitiveCastsFit}
-use Rattle.typing_laws.proofs.Nodes.{Operand, operand, constant-or-fits, converted-as, operand-typed}
+use Rattle.typing_laws.proofs.Nodes.{Operand, operand, constant-or-fits, converted-as}
+use Rattle.typing_laws.proofs.Values.{typed-in}
 use Rattle.typing_laws.proofs.Operators.{boolean-operand}
 
 number-operand : (b : Base) → is_number_base b ≡ true → (s : SourceType) → is_numeric s ≡ true → Operand s b
@@ -41,7 +42,7 @@ module _ (p : CoreProgram) (body : Body) (heads : List ClassHead) (b : Base) (ty
   cast-fits : casts_to b t.type ≡ true → FitsAs p body heads (of_base b (primitive_cast_node b type_span span t.node))
   cast-fits e =
       let own = cast-operand b known t.type e in
-      constant-or-fits p body heads (value_in b (constant_value t.node)) (uses_of t.node) b span type_span _ (operand-typed p body heads t b fit own) fit.uses (converted-as p body heads t b fit own)
+      constant-or-fits p body heads (value_in b (constant_value t.node)) (uses_of t.node) b span type_span _ (typed-in b (constant_value t.node)) fit.uses (converted-as p body heads t b fit own)
 
   cast-gives : Gives (FitsAs p body heads) (primitive_cast b type_span span t)
   unfolding primitive_cast bind check

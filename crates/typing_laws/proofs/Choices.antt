@@ -41,10 +41,10 @@ use Rattle.typing_laws.specs.Passing.{PassesAs}
 use Rattle.typing_laws.proofs.Assigned.{primitive-is, by-subtype, held-number, to-base}
 use Rattle.typing_laws.proofs.Assignments.{agrees-itself}
 use Rattle.typing_laws.proofs.Erased.{erased-not-void}
-use Rattle.typing_laws.proofs.Nodes.{CanBe, Operand, boolean-type, converted-type, erased-plain, no-uses, operand, operand-typed, uses-together}
+use Rattle.typing_laws.proofs.Nodes.{CanBe, boolean-type, converted-type, erased-plain, no-uses, uses-together}
 use Rattle.typing_laws.proofs.Operators.{boolean-operand, wider-number}
 use Rattle.typing_laws.proofs.Subtypes.{or-left, or-right}
-use Rattle.typing_laws.proofs.Values.{HasType}
+use Rattle.typing_laws.proofs.Values.{HasType, typed-in}
 
 -- ---- primitive operands: the type of the whole is that of one, or both are numbers
 
@@ -219,8 +219,8 @@ module _ (p : CoreProgram) (body : Body) (heads : List ClassHead) (at condition_
             (ap (λ (u : Ty). types.same_type u (erased heads (plain d 0))) (converted-type d first.node) ∙ ap (types.same_type (of d)) (erased-plain heads d) ∙ same_base-refl d);
       })
       (λ f g x z. (
-        if-some _ _ f (const-form d (value_in d (constant_value first.node)) (operand-typed p body heads first d y (subst (λ (s : SourceType). Operand s d) (sym i.is) (operand can.0)))) x,
-        if-some _ _ g (const-form d (value_in d (constant_value other.node)) (operand-typed p body heads other d n (subst (λ (s : SourceType). Operand s d) (sym j.is) (operand can.1)))) z,
+        if-some _ _ f (const-form d (value_in d (constant_value first.node)) (typed-in d (constant_value first.node))) x,
+        if-some _ _ g (const-form d (value_in d (constant_value other.node)) (typed-in d (constant_value other.node))) z,
       ))
       q
 

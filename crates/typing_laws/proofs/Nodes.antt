@@ -21,12 +21,12 @@ use Rattle.je_scopes.specs.SourceTypes.{SourceType, plain}
 use Rattle.plain_programs.specs.Nodes.{every}
 use Rattle.source_types.specs.Erasure.{erased, erased_within}
 use Rattle.source_types.specs.Heads.{ClassHead, variable_count}
-use Rattle.je_typing.specs.Constants.{constant_or, constant_value, unless_null, uses_of, value_in}
+use Rattle.je_typing.specs.Constants.{constant_or, constant_value, unless_null, uses_of}
 use Rattle.je_typing.specs.Conversions.{converted, span_of, token_of}
 use Rattle.je_typing.specs.Operators.{of_base}
 use Rattle.je_typing.specs.Typed.{TypedNode}
 use Rattle.typing_laws.specs.Fitting.{FitsAs, stands_once, with_texts}
-use Rattle.typing_laws.proofs.Values.{HasType, in-base}
+use Rattle.typing_laws.proofs.Values.{HasType}
 
 -- ---- types
 
@@ -89,23 +89,6 @@ module _ (p : CoreProgram) (body : Body) (heads : List ClassHead) where
   value-typed (node (core.Const v uses) t span at) fit = const-typed v uses t span at (fit [] refl)
   value-typed (node _ t span at) fit = tt
 
-  in-base-typed : (t : Ty) (b : Base) (o : Option Value) → (b ≡ base.Bool → t ≡ bool) → HasType t o → HasType (of b) (value_in b o)
-  in-base-typed t b None k h = tt
-  in-base-typed t b (Some v) k h = in-base t b v h k
-
-  boolean-by : (a b : Base) → CanBe a b → b ≡ base.Bool → of a ≡ bool
-  boolean-by a b (inl e) k = ap of (e ∙ k)
-  boolean-by a b (inr q) k = let none : false ≡ true = ap is_number_base (sym k) ∙ q.1 in absurd cc
-
-  -- what an operand is as a constant of the base
-  pub operand-typed : (t : TypedNode) (b : Base) → FitsAs p body heads t → Operand t.type b → HasType (of b) (value_in b (constant_value t.node))
-  operand-typed t b fit o = by t.type fit.type o
-    where
-      by : (s : SourceType) → ty_of t.node ≡ erased heads s → Operand s b → HasType (of b) (value_in b (constant_value t.node))
-      by _ e (operand {a = a} can) =
-          let own : ty_of t.node ≡ of a = e ∙ erased-plain heads a in
-          in-base-typed (of a) b (constant_value t.node) (boolean-by a b can) (subst (λ (u : Ty). HasType u (constant_value t.node)) own (value-typed t.node fit.node))
-
   pub operand-fits : (texts : List (List ℕ)) (t : TypedNode) (b : Base) → FitsAs p body heads t → Operand t.type b → every (stands_once texts) (converted b t.node) ≡ true → Fits (with_texts p texts) body (converted b t.node)
   operand-fits texts t b fit o h = by t.type fit.type o
     where
@@ -136,6 +119,10 @@ module _ (p : CoreProgram) (body : Body) (heads : List ClassHead) where
     uses = kept-uses (same_type (ty_of t.node) (of b)) b t.node fit.uses;
     type = converted-type b t.node ∙ sym (erased-plain heads b);
   }
+
+  boolean-by : (a b : Base) → CanBe a b → b ≡ base.Bool → of a ≡ bool
+  boolean-by a b (inl e) k = ap of (e ∙ k)
+  boolean-by a b (inr q) k = let none : false ≡ true = ap is_number_base (sym k) ∙ q.1 in absurd cc
 
   -- a boolean operand has that type itself
   pub boolean-type : (t : TypedNode) → FitsAs p body heads t → Operand t.type base.Bool → ty_of t.node ≡ bool

@@ -29,8 +29,8 @@ use Rattle.je_typing.specs.Promotion.{promoted, promoted_base, promoted_together
 use Rattle.je_typing.specs.Typed.{TypedNode, is_boolean}
 use Rattle.typing_laws.specs.Fitting.{FitsAs, Gives, stands_once, with_texts}
 use Rattle.typing_laws.specs.Laws.{PrimitiveOperationsFit}
-use Rattle.typing_laws.proofs.Nodes.{Operand, operand, constant-or-fits, converted-type, erased-plain, no-uses, operand-fits, operand-typed, uses-together}
-use Rattle.typing_laws.proofs.Values.{HasType, binary-typed}
+use Rattle.typing_laws.proofs.Nodes.{Operand, operand, constant-or-fits, converted-type, erased-plain, no-uses, operand-fits, uses-together}
+use Rattle.typing_laws.proofs.Values.{HasType, binary-typed, typed-in}
 
 -- ---- promotion
 
@@ -189,7 +189,7 @@ module _ (p : CoreProgram) (body : Body) (heads : List ClassHead) where
     operation-fits : (q : Operands) → AreTaken (sort_of o) left.type right.type q → FitsAs p body heads (binary_of o q (result_base (sort_of o) q.left) at span left.node right.node)
     operation-fits q taken = constant-or-fits p body heads (folded o q left.node right.node) (uses_of left.node ++ uses_of right.node) (result_base (sort_of o) q.left) span at _
         (subst (λ (u : Ty). HasType u (folded o q left.node right.node)) (result-type (sort_of o) q.left)
-        (binary-typed o (of q.left) (value_in q.left (constant_value left.node)) (value_in q.right (constant_value right.node)) (operand-typed p body heads left q.left l taken.left)))
+        (binary-typed o (of q.left) (value_in q.left (constant_value left.node)) (value_in q.right (constant_value right.node)) (typed-in q.left (constant_value left.node))))
         (uses-together p body heads (uses_of left.node) (uses_of right.node) l.uses r.uses)
         (binary-fits q taken)
 

@@ -30,9 +30,9 @@ use Rattle.je_typing.specs.Promotion.{promoted}
 use Rattle.je_typing.specs.Typed.{TypedNode, is_boolean}
 use Rattle.typing_laws.specs.Fitting.{FitsAs, Gives, stands_once, with_texts}
 use Rattle.typing_laws.specs.Laws.{LogicalOperationsFit, PlusFits, UnaryOperationsFit}
-use Rattle.typing_laws.proofs.Nodes.{Operand, boolean-type, constant-or-fits, converted-as, converted-type, erased-plain, no-uses, operand-fits, operand-typed, uses-together}
+use Rattle.typing_laws.proofs.Nodes.{Operand, boolean-type, constant-or-fits, converted-as, converted-type, erased-plain, no-uses, operand-fits, uses-together}
 use Rattle.typing_laws.proofs.Operators.{as-operand, boolean-operand, is-number}
-use Rattle.typing_laws.proofs.Values.{HasType, unary-typed}
+use Rattle.typing_laws.proofs.Values.{HasType, unary-typed, typed-in}
 
 -- ---- the operand
 
@@ -76,7 +76,7 @@ module _ (p : CoreProgram) (body : Body) (heads : List ClassHead) where
         by (Some b) e =
             let taken = is-taken o operand.type b e in
             constant-or-fits p body heads (folded_unary o (value_in b (constant_value operand.node))) (uses_of operand.node) b span at _
-            (unary-typed o (of b) (value_in b (constant_value operand.node)) (operand-typed p body heads operand b fit taken.own)) fit.uses (node-fits o b taken)
+            (unary-typed o (of b) (value_in b (constant_value operand.node)) (typed-in b (constant_value operand.node))) fit.uses (node-fits o b taken)
 
     plus-gives : Gives (FitsAs p body heads) (plus at span operand)
     unfolding plus bind need
@@ -88,7 +88,7 @@ module _ (p : CoreProgram) (body : Body) (heads : List ClassHead) where
             let n = is-number operand.type b e in
             let own = as-operand operand.type b b n n.number_too in
             constant-or-fits p body heads (value_in b (constant_value operand.node)) (uses_of operand.node) b span at _
-            (operand-typed p body heads operand b fit own) fit.uses (converted-as p body heads operand b fit own)
+            (typed-in b (constant_value operand.node)) fit.uses (converted-as p body heads operand b fit own)
 
   -- ---- `&&` and `||`
 

@@ -1,5 +1,5 @@
 -- The types of constants: what conversions and operators give on values.
-use Rattle.std.proofs.Common.{◌≡◌, zero, suc, ℤ, pos, negsuc, Option, Some, None, refl, ap, ◌∙◌, subst}
+use Rattle.std.proofs.Common.{◌≡◌, zero, suc, ℤ, pos, negsuc, Option, Some, None, refl, subst}
 use Rattle.std.specs.Prelude.{Bool}
 use Rattle.std.specs.Int.{Width, w32, w64}
 use Rattle.std.proofs.lemmas.Option.{same_Some}
@@ -16,7 +16,7 @@ use Rattle.je_arith.specs.Conversion.{as_base, as_base_if, number_of}
 use Rattle.je_arith.specs.Operators.{binary, on_numbers, on_truths, shifted, unary, unless_zero, value_of}
 use Rattle.je_fitting.specs.Operators.{gives, sort_of}
 use Rattle.je_fitting.specs.Types.{bool, int, of, type_of_value}
-use Rattle.je_typing.specs.Constants.{folded_binary, folded_unary, value_in_base}
+use Rattle.je_typing.specs.Constants.{boolean_value, folded_binary, folded_unary, value_in, value_in_base}
 
 -- a value, if there is one, has a type
 abbrev pub HasType : Ty → Option Value → Type 0
@@ -38,17 +38,31 @@ if-typed : (b : Base) (o : Option ℤ) → HasType (of b) (as_base_if b o)
 if-typed b None = tt
 if-typed b (Some z) = as-typed b z
 
--- a value of a type in a base: of that base, where the type is boolean if the base is
-pub in-base : (t : Ty) (b : Base) (v : Value) → type_of_value v ≡ Some t → (b ≡ base.Bool → t ≡ bool) → HasType (of b) (value_in_base b v)
-in-base t base.Bool v h k = h ∙ ap Some (k refl)
-in-base t base.Byte v h k = if-typed base.Byte (number_of v)
-in-base t base.Short v h k = if-typed base.Short (number_of v)
-in-base t base.Char v h k = if-typed base.Char (number_of v)
-in-base t base.Int v h k = if-typed base.Int (number_of v)
-in-base t base.Long v h k = if-typed base.Long (number_of v)
-in-base t base.Null v h k = if-typed base.Null (number_of v)
-in-base t base.Void v h k = if-typed base.Void (number_of v)
-in-base t (base.Class c) v h k = if-typed (base.Class c) (number_of v)
+boolean-typed : (v : Value) → HasType bool (boolean_value v)
+boolean-typed (value.Bool b) = refl
+boolean-typed (value.Byte z) = tt
+boolean-typed (value.Short z) = tt
+boolean-typed (value.Char z) = tt
+boolean-typed (value.Int z) = tt
+boolean-typed (value.Long z) = tt
+boolean-typed value.Null = tt
+boolean-typed (value.Ref r) = tt
+
+in-base : (b : Base) (v : Value) → HasType (of b) (value_in_base b v)
+in-base base.Bool v = boolean-typed v
+in-base base.Byte v = if-typed base.Byte (number_of v)
+in-base base.Short v = if-typed base.Short (number_of v)
+in-base base.Char v = if-typed base.Char (number_of v)
+in-base base.Int v = if-typed base.Int (number_of v)
+in-base base.Long v = if-typed base.Long (number_of v)
+in-base base.Null v = if-typed base.Null (number_of v)
+in-base base.Void v = if-typed base.Void (number_of v)
+in-base (base.Class c) v = if-typed (base.Class c) (number_of v)
+
+-- a value in a base is of that base
+pub typed-in : (b : Base) (o : Option Value) → HasType (of b) (value_in b o)
+typed-in b None = tt
+typed-in b (Some v) = in-base b v
 
 -- ---- operators
 

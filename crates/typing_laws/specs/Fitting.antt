@@ -5,6 +5,7 @@ use Rattle.std.specs.Str.{bytes_eq}
 use Rattle.je_core.specs.Core.{CoreForm, CoreProgram, ty_of}
 use Rattle.je_core.specs.Core as core
 use Rattle.je_fitting.specs.Expressions.{Body, Fits, are_there}
+use Rattle.je_fitting.specs.Types.{agrees}
 use Rattle.plain_programs.specs.Nodes.{every}
 use Rattle.source_types.specs.Erasure.{erased}
 use Rattle.source_types.specs.Heads.{ClassHead, bound_of}
@@ -28,6 +29,14 @@ pub record FitsAs (program : CoreProgram) (body : Body) (heads : List ClassHead)
       Fits (with_texts program texts) body t.node
   pub uses : are_there program (uses_of t.node)
   pub type : ty_of t.node ≡ erased heads t.type
+
+-- A variable fits where it stands, and takes what has the erasure of its type in the source: it may be declared of a
+-- type above that one (JLS 4.6).
+pub record FitsAsVariable (program : CoreProgram) (body : Body) (heads : List ClassHead) (t : TypedNode) : Type 0 where
+  pub node : (texts : List (List ℕ)) → every (stands_once texts) t.node ≡ true →
+      Fits (with_texts program texts) body t.node
+  pub takes : (texts : List (List ℕ)) →
+      agrees (with_texts program texts) (erased heads t.type) (ty_of t.node) ≡ true
 
 -- what a step gives has a property, if it gives something
 abbrev pub Gives : {A : Type 0} → (A → Type 0) → Judged A → Type 0

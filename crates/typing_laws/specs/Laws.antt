@@ -21,12 +21,15 @@ use Rattle.je_scopes.specs.SourceTypes.{SourceType}
 use Rattle.je_typing.specs.Typed.{TypedNode, element_type, is_primitive_base, is_string, is_void}
 use Rattle.je_ast.specs.declared.expr.Literal.{Literal}
 use Rattle.typing_laws.specs.Correspondence.{HasHeads}
-use Rattle.typing_laws.specs.Fitting.{BoundsFit, FitsAs, Gives}
+use Rattle.typing_laws.specs.Fitting.{BoundsFit, FitsAs, FitsAsVariable, Gives}
 
 -- of nodes of a program in a body, over the headers of its classes
 module _ (p : CoreProgram) (body : Body) (heads : List ClassHead) where
   abbrev Fit : TypedNode → Type 0
   Fit t = FitsAs p body heads t
+
+  abbrev Variable : TypedNode → Type 0
+  Variable t = FitsAsVariable p body heads t
 
   -- JLS 3.10
   abbrev pub LiteralsFit : Type 0
@@ -66,20 +69,20 @@ module _ (p : CoreProgram) (body : Body) (heads : List ClassHead) where
   -- JLS 15.26.1
   abbrev pub AssignmentsFit : Type 0
   AssignmentsFit = (at left_span right_span span : Span) (left right : TypedNode) → HasHeads p heads →
-      dims_of left.type ≤ 255 → dims_of right.type ≤ 255 → is_void left.type ≡ false →
-      IsPlace p body (form_of left.node) → Fit left → Fit right →
+      dims_of left.type ≤ 255 → dims_of right.type ≤ 255 →
+      IsPlace p body (form_of left.node) → Variable left → Fit right →
       Gives Fit (assignment heads at left_span right_span span left right)
 
   -- JLS 15.26.2
   abbrev pub UpdatesFit : Type 0
   UpdatesFit = (o : BinOp) (at left_span span : Span) (left right : TypedNode) → BoundsFit heads →
-      IsPlace p body (form_of left.node) → Fit left → Fit right →
-      Gives Fit (update o at left_span span left right)
+      IsPlace p body (form_of left.node) → Variable left → Fit right →
+      Gives Fit (update heads o at left_span span left right)
 
   -- JLS 15.14, 15.15.1, 15.15.2
   abbrev pub StepsFit : Type 0
   StepsFit = (o : BinOp) (gives_old : Bool) (at operand_span span : Span) (operand : TypedNode) → is_step o ≡ true →
-      IsPlace p body (form_of operand.node) → Fit operand →
+      IsPlace p body (form_of operand.node) → Variable operand →
       Gives Fit (stepped o gives_old at operand_span span operand)
 
   -- ---- references

@@ -6,8 +6,9 @@ use Rattle.std.specs.Ordering.{nat_cmp, ordering_then}
 use Rattle.je_core.specs.declared.program.Bridge.{Bridge}
 use Rattle.source_types.specs.Erasure.{class_numbered}
 use Rattle.source_types.specs.Heads.{ClassHead}
+use Rattle.declarations.specs.Declarations.{DeclaredClass}
 use Rattle.overriding.specs.Methods.{Method}
-use Rattle.class_typing.specs.Bridges.{is_instance_method, is_same_place, place_of, runs_for}
+use Rattle.class_typing.specs.Bridges.{has_body_beside, is_instance_method, is_same_place, place_of, runs_for}
 
 abbrev pub place_order : ℕ × ℕ → ℕ × ℕ → Ordering
 place_order p q = ordering_then (nat_cmp p.0 q.0) (nat_cmp p.1 q.1)
@@ -21,10 +22,14 @@ abbrev pub else_by : Option (ℕ × ℕ) → Bool → Method → Option (ℕ × 
 else_by (Some by) runs m = Some by
 else_by None runs m = if runs then Some (place_of m) else None
 
-module _ (heads : List ClassHead) where
-  -- it is an instance method, and this one runs for it; which classes there are doesn't matter
+-- it is an instance method, and this one has a body beside it; which classes there are doesn't matter
+abbrev pub has_body_beside_instance : List ClassHead → Method → Method → Bool
+has_body_beside_instance heads n m = is_instance_method heads [] 0 n && has_body_beside heads [] 0 n m
+
+module _ (heads : List ClassHead) (classes : List DeclaredClass) where
+  -- it is an instance method, and this one runs for it, in whichever class
   abbrev pub is_run_for : Method → Method → Bool
-  is_run_for n m = is_instance_method heads [] 0 n && runs_for heads [] 0 n m
+  is_run_for n m = is_instance_method heads classes 0 n && runs_for heads classes 0 n m
 
   -- one of these is declared at a place, and this one runs for it
   abbrev pub runs_at : List Method → ℕ × ℕ → Method → Bool

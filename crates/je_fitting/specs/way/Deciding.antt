@@ -128,7 +128,7 @@ module _ (program : CoreProgram) (body : Body) where
     is_form_fit (core.Index a i) t = is_fit a && same_type (ty_of a) (array_of t) && is_fit i && is_int (ty_of i)
     is_form_fit (core.Length a) t = is_fit a && nat_lt 0 (ty_of a).dims && same_type int t
     is_form_fit (core.Assign place value) t = is_fit place && is_place (form_of place) && is_fit value && agrees program (ty_of value) t && agrees program t (ty_of place)
-    is_form_fit (core.Update place o operand old) t = is_fit place && same_type (ty_of place) t && is_place (form_of place) && is_operand_fit o t old operand
+    is_form_fit (core.Update place o operand old) t = is_fit place && agrees program t (ty_of place) && is_place (form_of place) && is_operand_fit o t old operand
     is_form_fit (core.Unary o e) t = is_fit e && takes_one o (ty_of e) && same_type (ty_of e) t
     is_form_fit (core.Binary o l r) t = is_fit l && is_fit r && takes (sort_of o) (ty_of l) (ty_of r) && same_type (gives (sort_of o) (ty_of l)) t
     is_form_fit (core.And l r) t = is_fit l && is_fit r && is_bool (ty_of l) && is_bool (ty_of r) && same_type bool t

@@ -1,5 +1,5 @@
 -- Whether a class itself fits, and a program, as tests.
-use Rattle.std.specs.Prelude.{Bool, true, false, not, ◌&&◌, ◌||◌, ◌+◌, List, take, drop, length, Option, Some, None, is_some, slice_get, nat_eq}
+use Rattle.std.specs.Prelude.{ℕ, Bool, true, false, not, ◌&&◌, ◌||◌, ◌+◌, List, take, drop, length, Option, Some, None, is_some, slice_get, nat_eq}
 use Rattle.std.specs.List.{list_all}
 use Rattle.je_core.specs.declared.program.Bridge.{Bridge}
 use Rattle.je_core.specs.declared.program.Head.{Head}
@@ -8,7 +8,7 @@ use Rattle.je_core.specs.Core.{CoreField, CoreMethod, CoreClass, CoreProgram}
 use Rattle.je_classes.specs.Hierarchy.{class_at, same_class, is_below, object_class, supers_of}
 use Rattle.je_classes.specs.Subtypes.{same_types}
 use Rattle.je_classes.specs.Members.{Member, same_name, is_private}
-use Rattle.je_classes.specs.Dispatch.{implemented, dispatched}
+use Rattle.je_classes.specs.Dispatch.{bridged, implemented, dispatched}
 use Rattle.je_fitting.specs.Expressions.{outer_count, method_at, is_constructor, is_interface_sort, can_be_made, places_up_to}
 use Rattle.je_fitting.specs.Members.{is_guest, results_agree}
 use Rattle.je_fitting.specs.Classes.{can_be_extended, is_interface, is_round, is_hidden, hidden_fields, field_types, outer_type, enum_types, handed_count, same_places}
@@ -54,8 +54,11 @@ module _ (program : CoreProgram) where
   is_inherited_fit class k None = true
   is_inherited_fit class k (Some m) = same_class m.class class || if_there (λ by. stands_for program by k) (method_at program m.class m.at)
 
+  abbrev pub is_unbridged : ClassId → ClassId → ℕ → Bool
+  is_unbridged class above at = not (is_some (bridged (class_at program class) (record { class = above; at = at })))
+
   abbrev pub are_inherited_fit : ClassId → Bool
-  are_inherited_fit class = each_method program (λ above at k. implies (is_instance_method class above k && not (is_private k)) (is_inherited_fit class k (implemented program class k)))
+  are_inherited_fit class = each_method program (λ above at k. implies (is_instance_method class above k && not (is_private k) && is_unbridged class above at) (is_inherited_fit class k (implemented program class k)))
 
   abbrev pub implements_all : ClassId → Bool
   implements_all class = each_method program (λ above at k. implies (is_instance_method class above k) (is_some (dispatched program class (record { class = above; at = at }))))

@@ -16,7 +16,7 @@ use Rattle.je_typing.specs.Conversions.{assigned, converted}
 use Rattle.je_typing.specs.Judged.{gives, bind, need, check, breaks}
 use Rattle.je_base.specs.declared.span.Span.{Span}
 use Rattle.je_typing.specs.Operators.{binary, primitive_operation}
-use Rattle.je_typing.specs.Typed.{TypedNode, typed_as, typed_text, primitive_type}
+use Rattle.je_typing.specs.Typed.{TypedNode, typed_as, typed_text, primitive_type, string_type}
 use Rattle.je_typing.proofs.Rows.Parts.{at, left, token, right, whole, int, truth, text, local_node, variable, string_variable, of_type, heads, a}
 
 -- x = 1
@@ -43,42 +43,47 @@ unfolding assignment assigned place bind check converted erased
 length_is_no_variable = refl
 
 -- y += 100, y a byte: the operand stays an int
-small_sum : compound source.Add token left whole (variable base.Byte 0 left) (int (pos 100) right) ≡ gives (typed_as base.Byte (Update (local_node 0 (of base.Byte) left) op.Add (a_core (int (pos 100) right).node) false) whole token)
+small_sum : compound heads source.Add token left whole (variable base.Byte 0 left) (int (pos 100) right) ≡ gives (typed_as base.Byte (Update (local_node 0 (of base.Byte) left) op.Add (a_core (int (pos 100) right).node) false) whole token)
 unfolding compound update place bind need check library_class erased
 small_sum = refl
 
 -- s += 1, s a String; i += "x", i an int; o += "x", o an Object; s -= "x"
-appended : compound source.Add token left whole (string_variable 0 left) (int (pos 1) right) ≡ gives (typed_text (Update (string_variable 0 left).node op.Add (a_core (int (pos 1) right).node) false) whole token)
+appended : compound heads source.Add token left whole (string_variable 0 left) (int (pos 1) right) ≡ gives (typed_text (Update (string_variable 0 left).node op.Add (a_core (int (pos 1) right).node) false) whole token)
 unfolding compound update place bind need check library_class erased
 appended = refl
 
-text_to_number : compound source.Add token left whole (variable base.Int 0 left) (text (codes "x") right) ≡ breaks BadOperand token
+-- s += 1, s of a type variable for which String is put in
+appended_above : compound heads source.Add token left whole (record (of_type object_type 0 left) { type = string_type }) (int (pos 1) right) ≡ gives (typed_text (Update (of_type object_type 0 left).node op.Add (a_core (int (pos 1) right).node) false) whole token)
+unfolding compound update place bind need check library_class object_class erased
+appended_above = refl
+
+text_to_number : compound heads source.Add token left whole (variable base.Int 0 left) (text (codes "x") right) ≡ breaks BadOperand token
 unfolding compound update place bind need check library_class erased
 text_to_number = refl
 
-text_to_object : compound source.Add token left whole (of_type object_type 0 left) (text (codes "x") right) ≡ breaks BadOperand token
+text_to_object : compound heads source.Add token left whole (of_type object_type 0 left) (text (codes "x") right) ≡ breaks BadOperand token
 unfolding compound update place bind need check library_class object_class erased
 text_to_object = refl
 
-text_subtracted : compound source.Subtract token left whole (string_variable 0 left) (text (codes "x") right) ≡ breaks BadOperand token
+text_subtracted : compound heads source.Subtract token left whole (string_variable 0 left) (text (codes "x") right) ≡ breaks BadOperand token
 unfolding compound update place bind need check library_class erased
 text_subtracted = refl
 
 -- t &= true; t &= 1
-truths : compound source.BitAnd token left whole (variable base.Bool 0 left) (truth true right) ≡ gives (typed_as base.Bool (Update (local_node 0 (of base.Bool) left) op.BitAnd (a_core (truth true right).node) false) whole token)
+truths : compound heads source.BitAnd token left whole (variable base.Bool 0 left) (truth true right) ≡ gives (typed_as base.Bool (Update (local_node 0 (of base.Bool) left) op.BitAnd (a_core (truth true right).node) false) whole token)
 unfolding compound update place bind need check library_class erased
 truths = refl
 
-truth_and_number : compound source.BitAnd token left whole (variable base.Bool 0 left) (int (pos 1) right) ≡ breaks BadOperand token
+truth_and_number : compound heads source.BitAnd token left whole (variable base.Bool 0 left) (int (pos 1) right) ≡ breaks BadOperand token
 unfolding compound update place bind need check library_class erased
 truth_and_number = refl
 
 -- 1 += true has both faults; 1 += 1
-operand_first : compound source.Add token left whole (int (pos 1) left) (truth true right) ≡ breaks BadOperand token
+operand_first : compound heads source.Add token left whole (int (pos 1) left) (truth true right) ≡ breaks BadOperand token
 unfolding compound update place bind need check library_class erased
 operand_first = refl
 
-sum_into_no_variable : compound source.Add token left whole (int (pos 1) left) (int (pos 1) right) ≡ breaks BadTarget left
+sum_into_no_variable : compound heads source.Add token left whole (int (pos 1) left) (int (pos 1) right) ≡ breaks BadTarget left
 unfolding compound update place bind need check library_class erased
 sum_into_no_variable = refl
 

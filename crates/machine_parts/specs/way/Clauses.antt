@@ -1,6 +1,6 @@
 -- What a control stands for, before frames and in a state: the clauses of the functions that begin a node or take what
 -- comes.
-use Rattle.std.specs.Prelude.{◌≡◌, ◌≢◌, ◌<◌, ◌+◌, ℕ, List, [], ◌∷◌, drop, filter, Option, Some, None, Bool, if◌then◌else◌}
+use Rattle.std.specs.Prelude.{◌≡◌, ◌≢◌, ◌<◌, ◌+◌, ℕ, List, [], ◌∷◌, drop, filter, Option, Some, None, Bool, true, false, if◌then◌else◌}
 use Rattle.std.specs.declared.rc.Rc.{Rc}
 use Rattle.std.specs.declared.alloc.Global.{Global}
 use Rattle.je_core.specs.declared.value.ObjId.{ObjId}
@@ -14,11 +14,11 @@ use Rattle.je_core.specs.declared.stmt.Stmt.{Stmt}
 use Rattle.je_core.specs.Core.{Core, CoreForm, Update, CoreStmt, CoreGroup, CoreInitializer, CoreProgram, form_of, option_of}
 use Rattle.je_core.specs.View.{view, stmt_view, program_view}
 use Rattle.je_heap.specs.Contents.{Contents}
-use Rattle.je_java.specs.Steps.{State, Outside, AllStarted, Own, Done, Spent, Wrong, Run, Exits, Computation, Nothing, ◌>>◌, ret, wrong, raise, throw, put_local, with_own, make}
+use Rattle.je_java.specs.Steps.{State, Outside, Own, Done, Spent, Wrong, Run, Exits, Computation, Nothing, ◌>>◌, ret, wrong, raise, throw, put_local, with_own, make}
 use Rattle.je_java.specs.Raised.{null_pointer, array_index, array_store}
 use Rattle.je_java.specs.Arrays.{storable}
 use Rattle.je_java.specs.Constructors.{is_of_instance}
-use Rattle.je_java.specs.Meaning.{Meanings, fetched, java, ends, nobody}
+use Rattle.je_java.specs.Meaning.{Meanings, is_static, fetched, java, ends, nobody}
 use Rattle.machine_parts.specs.declared.frame.Frame.{Frame}
 use Rattle.machine_parts.specs.declared.frame.Env.{Env}
 use Rattle.machine_parts.specs.declared.frame.Context.{Context}
@@ -117,15 +117,6 @@ abbrev pub GoesAheadOver : Program → Context → Contents → Context → Cont
 GoesAheadOver program old before new after f c = (m : Meanings) (k : Ways) (outside : Outside) →
     resume (program_view program) m k c new.frames (state new after outside) ≡ f (program_view program) m (waits (program_view program) m k old.frames) (state old before outside)
 
--- the same before what is behind the first body
-abbrev pub GoesOut : Reply → Context → Context → Ahead → Control → Type 0
-GoesOut reply old new f c = (p : CoreProgram) (m : Meanings) (heap : Contents) (outside : Outside) →
-    resume p m (outermost reply) c new.frames (state new heap outside) ≡ f p m (waits p m (outermost reply) old.frames) (state old heap outside)
-
-abbrev pub GoesOutOver : Program → Reply → Context → Contents → Context → Contents → Ahead → Control → Type 0
-GoesOutOver program reply old before new after f c = (m : Meanings) (outside : Outside) →
-    resume (program_view program) m (outermost reply) c new.frames (state new after outside) ≡ f (program_view program) m (waits (program_view program) m (outermost reply) old.frames) (state old before outside)
-
 -- a call of a program in memory goes on to that
 abbrev pub GoesToReply : Program → Context → Contents → Reply → Context → Contents →
     (CoreProgram → Meanings → Computation (Option Value)) → Control → Type 0
@@ -139,15 +130,17 @@ GoesToReply program old before r new after f c = (outside : Outside) →
 abbrev pub run_from : Program → Ways → Control → List Frame → Run
 run_from program k c fs = resume (program_view program) (java (program_view program)) k c fs
 
--- the control goes on as the old one, where all classes have been started
-abbrev pub GoesOn : Program → Reply → Context → Contents → Control → Reply → Context → Contents → Control → Type 0
-GoesOn program reply old before control reply' new after c = (outside : Outside) → AllStarted outside →
-    run_from program (outermost reply') c new.frames (state new after outside) ≡ run_from program (outermost reply) control old.frames (state old before outside)
+-- the control goes on as the old one
+abbrev pub GoesOn : Program → Reply → Context → Contents → Outside → Control → Reply → Context → Contents → Outside → Control → Type 0
+GoesOn program reply old before outside control reply' new after outside' c =
+    run_from program (outermost reply') c new.frames (state new after outside') ≡
+    run_from program (outermost reply) control old.frames (state old before outside)
 
--- the control is what comes to a value, where all classes have been started
-abbrev pub RunsToValue : Program → Context → Contents → Context → Contents → (Meanings → Computation Value) → Control → Type 0
-RunsToValue program old before new after f c = (k : Ways) (outside : Outside) → AllStarted outside →
-    run_from program k c new.frames (state new after outside) ≡ valued (f (java (program_view program))) (waits (program_view program) (java (program_view program)) k old.frames) (state old before outside)
+-- the control is what comes to a value
+abbrev pub RunsToValue : Program → Context → Contents → Outside → Context → Contents → Outside → (Meanings → Computation Value) → Control → Type 0
+RunsToValue program old before outside new after outside' f c = (k : Ways) →
+    run_from program k c new.frames (state new after outside') ≡
+    valued (f (java (program_view program))) (waits (program_view program) (java (program_view program)) k old.frames) (state old before outside)
 
 -- the control is what comes to a statement's end
 abbrev pub RunsToEnd : Program → Context → Contents → Context → Contents → (Meanings → Computation Nothing) → Control → Type 0
@@ -173,10 +166,10 @@ RunsAhead old new f c = (p : CoreProgram) (k : Ways) (heap : Contents) (outside 
 abbrev pub RunsAheadOf : List Frame → List Frame → Ahead → Control → Type 0
 RunsAheadOf old new f c = (p : CoreProgram) (k : Ways) (s : State) → resume p (java p) k c new s ≡ f p (java p) (waits p (java p) k old) s
 
--- the same over a heap that may have changed
-abbrev pub RunsAheadOver : Program → Context → Contents → Context → Contents → Ahead → Control → Type 0
-RunsAheadOver program old before new after f c = (k : Ways) (outside : Outside) →
-    run_from program k c new.frames (state new after outside) ≡
+-- the same of a program in memory, where the state may have changed too, and classes may have started
+abbrev pub RunsAheadFrom : Program → Context → Contents → Outside → Context → Contents → Outside → Ahead → Control → Type 0
+RunsAheadFrom program old before outside new after outside' f c = (k : Ways) →
+    run_from program k c new.frames (state new after outside') ≡
     f (program_view program) (java (program_view program)) (waits (program_view program) (java (program_view program)) k old.frames) (state old before outside)
 
 -- the same before what is behind the first body
@@ -184,9 +177,9 @@ abbrev pub RunsOut : Reply → Context → Context → Ahead → Control → Typ
 RunsOut reply old new f c = (p : CoreProgram) (heap : Contents) (outside : Outside) →
     resume p (java p) (outermost reply) c new.frames (state new heap outside) ≡ f p (java p) (waits p (java p) (outermost reply) old.frames) (state old heap outside)
 
-abbrev pub RunsOutOver : Program → Reply → Context → Contents → Context → Contents → Ahead → Control → Type 0
-RunsOutOver program reply old before new after f c = (outside : Outside) →
-    run_from program (outermost reply) c new.frames (state new after outside) ≡
+abbrev pub RunsOutFrom : Program → Reply → Context → Contents → Outside → Context → Contents → Outside → Ahead → Control → Type 0
+RunsOutFrom program reply old before outside new after outside' f c =
+    run_from program (outermost reply) c new.frames (state new after outside') ≡
     f (program_view program) (java (program_view program)) (waits (program_view program) (java (program_view program)) (outermost reply) old.frames) (state old before outside)
 
 -- a number that falls with each move that goes on, where what came before gave so much
@@ -257,21 +250,26 @@ Stores program heap element value found = (go : Nothing → Run) (exits : Exits)
     stored_ways (program_view program) found go exits (state_of units begun heap outside own) ≡
     storable (program_view program) element value go exits (state_of units begun heap outside own)
 
--- the first of some initializers, and those of instances among the others
-abbrev pub from_first : List CoreInitializer → List CoreInitializer
-from_first [] = []
-from_first (initializer ∷ initializers) = initializer ∷ filter is_of_instance initializers
+-- whether an initializer is one of a class itself, or of its instances
+abbrev pub is_of_kind : Bool → CoreInitializer → Bool
+is_of_kind true = is_static
+is_of_kind false = is_of_instance
+
+-- the first of some initializers, and those of a kind among the others
+abbrev pub from_first : Bool → List CoreInitializer → List CoreInitializer
+from_first kind [] = []
+from_first kind (initializer ∷ initializers) = initializer ∷ filter (is_of_kind kind) initializers
 
 -- the next statement of some groups from a place on, and the place behind it
 abbrev pub NextCase : List CoreGroup → ℕ → ℕ → Option (ℕ × ℕ × Rc Stmt Global) → Type 0
 NextCase groups at next None = rest_of groups at next ≡ []
 NextCase groups at next (Some (at', next', part)) = rest_of groups at next ≡ stmt_view part.value ∷ rest_of groups at' next'
 
--- the place of the next initializer of instances among some, or that there is none
-abbrev pub NextInitializer : List CoreInitializer → ℕ → Option ℕ → Type 0
-NextInitializer initializers at None = filter is_of_instance (drop at initializers) ≡ []
-NextInitializer initializers at (Some next) =
-    filter is_of_instance (drop at initializers) ≡ from_first (drop next initializers)
+-- the place of the next initializer of a kind among some, or that there is none
+abbrev pub NextInitializer : List CoreInitializer → Bool → ℕ → Option ℕ → Type 0
+NextInitializer initializers kind at None = filter (is_of_kind kind) (drop at initializers) ≡ []
+NextInitializer initializers kind at (Some next) =
+    filter (is_of_kind kind) (drop at initializers) ≡ from_first kind (drop next initializers)
 
 -- the next expression of a list, or its end
 abbrev pub NextExpr : List Core → ℕ → Option (Rc Expr Global) → Type 0

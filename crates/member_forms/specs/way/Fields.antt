@@ -1,11 +1,14 @@
 -- A field whose initializer came to a node, by the constant that is kept of it, if it is one.
-use Rattle.std.specs.Prelude.{ℕ, Bool, true, [], ◌∷◌, Option, Some, None}
+use Rattle.std.specs.Prelude.{ℕ, Bool, true, [], ◌∷◌, Option, Some, None, ◌&&◌, is_some, not}
 use Rattle.je_base.specs.declared.span.Span.{Span}
 use Rattle.je_core.specs.Core.{Core, Static, no_core, node}
 use Rattle.je_ast.specs.declared.name.Identifier.{Identifier}
 use Rattle.je_ast.specs.Trees.{Expression}
 use Rattle.source_types.specs.Erasure.{class_numbered, erased}
 use Rattle.declarations.specs.Declarations.{DeclaredField}
+use Rattle.header_typing.specs.Statics.{is_inner}
+use Rattle.je_typing.specs.declared.fault.TypeRule.TheVariants.{BadStatic}
+use Rattle.je_typing.specs.Judged.{Judged, check}
 use Rattle.name_typing.specs.Program.{Constant}
 use Rattle.body_typing.specs.Bodies.{met_in_expression}
 use Rattle.class_typing.specs.Members.{MembersDone, nothing}
@@ -21,6 +24,11 @@ static_node w f at span =
 abbrev pub kept_constant : ClassWalk → DeclaredField → Span → Core → Bool → Option Constant → Option Core
 kept_constant w f span from true (Some constant) = Some (constant_node w f span from constant)
 kept_constant w f span from is_static constant = None
+
+-- a static field of an inner class is kept as a constant
+abbrev pub static_kept : ClassWalk → DeclaredField → Identifier → Option Core → Judged (Unit {0})
+static_kept w f id kept =
+    check BadStatic id.span (not (f.is_static && not (is_some kept) && is_inner (program_of w).source.sites (program_of w).heads w.class.0))
 
 abbrev pub code_by : ClassWalk → DeclaredField → ℕ → Identifier → Expression → Core → Option Core → MembersDone
 code_by w f at id e n (Some kept) = record nothing {

@@ -97,6 +97,14 @@ library = with (publicly 0 (object_type ∷ []) (plain base.Bool 0) ∷ []) ∷ 
 -- 34: class C extends A implements I
 -- 35: interface L extends I, J
 -- 36: class M extends G<String> implements I
+-- 37: class N extends H
+-- 38: interface P<T>
+-- 39: class Q extends A implements P<String>
+-- 40: class R implements P<R>
+-- 41: interface S extends P<String>
+-- 42: interface U extends P<String>
+-- 43: interface V extends S, U
+-- 44: abstract class W extends Q implements I
 unfoldable pub heads : List ClassHead
 heads = library_heads ++
     below_object ∷
@@ -109,8 +117,19 @@ heads = library_heads ++
     head sort.Class [] (of 27 [] ∷ of 32 [] ∷ []) ∷
     head sort.Interface [] (of 32 [] ∷ of 33 [] ∷ []) ∷
     head sort.Class [] (of 29 (string ∷ []) ∷ of 32 [] ∷ []) ∷
+    head sort.Class [] (of 30 [] ∷ []) ∷
+    head sort.Interface (object_type ∷ []) [] ∷
+    head sort.Class [] (of 27 [] ∷ of 38 (string ∷ []) ∷ []) ∷
+    head sort.Class [] (object_type ∷ of 38 (of 40 [] ∷ []) ∷ []) ∷
+    head sort.Interface [] (of 38 (string ∷ []) ∷ []) ∷
+    head sort.Interface [] (of 38 (string ∷ []) ∷ []) ∷
+    head sort.Interface [] (of 41 [] ∷ of 42 [] ∷ []) ∷
+    head sort.Class [] (of 39 [] ∷ of 32 [] ∷ []) ∷
     []
 
--- the type variable of G
+-- the type variable of G, and that of P
 abbrev pub t : SourceType
 t = of_variable 29 0 0
+
+abbrev pub t_of_p : SourceType
+t_of_p = of_variable 38 0 0

@@ -39,8 +39,8 @@ a_for word start c es b = tree.for word start c es b word
 abbrev pub a_for_each : Span → Bool → TypeName → Identifier → Expression → Statement → Statement
 a_for_each word is_final t id e b = tree.for_each word is_final t id e b word
 
-abbrev pub a_switch : Span → Expression → Groups → Statement
-a_switch word e gs = tree.switch word e gs word
+abbrev pub a_switch : Span → Expression → Groups → Span → Statement
+a_switch word e gs span = tree.switch word e gs span
 
 abbrev pub a_try : Span → BlockPart → Catches → Statement
 a_try word b cs = tree.try word b.opening b.stmts b.closing cs word

@@ -11,7 +11,7 @@ use Rattle.assigned_statements.proofs.statements.+walk.Given as goal
 abbrev pub invariant-walk_parts-loop-part : goal.invariant-walk_parts-loop-part
 invariant-walk_parts-loop-part l = record {
   ends : parts_end (follow_view l.follow) (ends_view l.done) (core_stmts (stmt_views (drop l.part-index l.parts))) ≡ parts_end (follow_view l.follow) (ends_view l.fn.before) (core_stmts (stmt_views l.parts));
-  faults : first_of l.found (parts_faults (follow_view l.follow) (ends_view l.done) (core_stmts (stmt_views (drop l.part-index l.parts)))) ≡ first_of l.fn.found (parts_faults (follow_view l.follow) (ends_view l.fn.before) (core_stmts (stmt_views l.parts)));
+  faults : first_of l.found (parts_faults (follow_view l.follow) l.list l.from (ends_view l.done) (core_stmts (stmt_views (drop l.part-index l.parts)))) ≡ first_of l.fn.found (parts_faults (follow_view l.follow) l.list 0 (ends_view l.fn.before) (core_stmts (stmt_views l.parts)));
 }
 
 abbrev pub invariant-walk_groups-loop-group : goal.invariant-walk_groups-loop-group

@@ -5,4 +5,4 @@ use Rattle.fit_classes.specs.way.Inheriting.{inherits}
 use Rattle.fit_classes.proofs.inherited.inherits_from_all.Given as goal
 
 abbrev pub invariant-loop-class : goal.invariant-loop-class
-invariant-loop-class l = each_of (program_view l.program) (λ d n k. inherits (program_view l.program) l.id k) (drop l.class-index l.above) ≡ each_of (program_view l.program) (λ d n k. inherits (program_view l.program) l.id k) l.above
+invariant-loop-class l = each_of (program_view l.program) (inherits (program_view l.program) l.id) (drop l.class-index l.above) ≡ each_of (program_view l.program) (inherits (program_view l.program) l.id) l.above

@@ -8,8 +8,8 @@ use Rattle.je_fitting.specs.way.Deciding.{are_fit}
 use Rattle.fit_nodes.proofs.Arrays.{elements_fit}
 use Rattle.fit_nodes.proofs.expressions.+expression.Goals as goal
 
-pub form_fits-returns-else-not-branch-33 : goal.form_fits-returns-else-not-branch-33
-form_fits-returns-else-not-branch-33 t c =
+pub form_fits-returns-else-not-branch-34 : goal.form_fits-returns-else-not-branch-34
+form_fits-returns-else-not-branch-34 t c =
     let p = program_view c.args.program.now in
     let vs = views c.in-ArrayOf.values.items in
     let seen : form_view c.args.form.now ≡ core.ArrayOf (cores vs) =

@@ -17,8 +17,8 @@ returns-in-Some-3-clause-value g c =
     let made = object_anonymous c.args.setting.now c.args.word c.args.tokens.now _ _ _ _ _ _ _ _ class args (sym read.0) in
     ap (λ (x : Expression × List Token). Some x) c.anonymous.ensures.value ∙ sym made
 
-pub returns-clause-value : goal.returns-clause-value
-returns-clause-value g c =
+pub returns-in-None-clause-value : goal.returns-in-None-clause-value
+returns-in-None-clause-value g c =
     let class : reference_at c.args.setting.now.below c.args.tokens.now ≡ Some (type_view c.in-Some.class.tree, c.in-Some-whole.behind_class.now) = grind (arith, common_steps) in
     let args : arguments_at c.args.setting.now c.in-Some-whole.behind_class.now ≡ Some (views_of c.in-Some-2.args.items.items, c.in-Some-2.args.close, c.in-Some-2.args.rest.now) = grind (arith, common_steps) in
     let read = rw c.in-None.is at (c.requires.body_reads _ _ c.in_ok-members.ensures) in

@@ -4,7 +4,7 @@ use Rattle.type_decl.specs.way.Seen.{captured_of}
 use Rattle.type_decl.proofs.code_walk.made.Goals as goal
 
 pub returns : goal.returns
-returns c = c.in_ok-made.ensures (captured_of c.args.whole.walk) (members_seen c.args.done) (record {
+returns c = c.in_ok-made.ensures (captured_of c.args.whole.now.walk) (members_seen c.args.done) (record {
   captured_are = c.captured_by.ensures;
   declared_are = c.written_fields.ensures;
   constants_are = refl;

@@ -12,6 +12,6 @@ returns c =
     behind_hidden field_shown c.fields_of-fields.result.now c.count_of.result c.min-hidden.result c.min-hidden.ensures
     ∙ ap (drop c.count_of.result) c.fields_of-fields.ensures
     ∙ ap (λ ds. drop c.count_of.result (fields_of ds c.args.class.0)) c.requires.classes_are
-    ∙ ap (λ (n : ℕ). drop n (fields_of (with_hidden (program_in c.args.whole.walk.bodies).source (captured_of c.args.whole.walk) 0 (classes (program_in c.args.whole.walk.bodies).source)) c.args.class.0)) (c.count_of.ensures ∙ ap (λ f. f c.args.class.0) c.requires.hidden_is)
-    ∙ written_behind (program_in c.args.whole.walk.bodies).source (captured_of c.args.whole.walk) (program_in c.args.whole.walk.bodies) c.args.class.0
-    (classes (program_in c.args.whole.walk.bodies).source) c.args.class.0
+    ∙ ap (λ (n : ℕ). drop n (fields_of (with_hidden (program_in c.args.whole.now.walk.bodies).source (captured_of c.args.whole.now.walk) 0 (classes (program_in c.args.whole.now.walk.bodies).source)) c.args.class.0)) (c.count_of.ensures ∙ ap (λ f. f c.args.class.0) c.requires.hidden_is)
+    ∙ written_behind (program_in c.args.whole.now.walk.bodies).source (captured_of c.args.whole.now.walk) (program_in c.args.whole.now.walk.bodies) c.args.class.0
+    (classes (program_in c.args.whole.now.walk.bodies).source) c.args.class.0

@@ -13,12 +13,12 @@ unfolding classes_of
 returns-in_err-judge_signatures-clause-err c =
     let p = err_from_is_err_and c.from_residual-in_err-judge_signatures.result c.from_residual-in_err-judge_signatures.ensures.1 in
     rw (p.1, p.2)
-    (judged_faults (source_in c.args.ground.source) (behind (map class_shown c.args.ground.library.now) (map class_shown c.args.declared.now)) c.requires.classes
-    (heads_of c.args.ground.heads.now) c.requires.ground.heads_are (is_among c.args.named.now) c.requires.named c.in_err-judge_signatures.field-0.0
+    (judged_faults (source_in c.args.ground.now.source) (behind (map class_shown c.args.ground.now.library.now) (map class_shown c.args.declared.now)) c.requires.classes
+    (heads_of c.args.ground.now.heads.now) c.requires.ground.heads_are (is_among c.args.named.now) c.requires.named c.in_err-judge_signatures.field-0.0
     c.in_err-judge_signatures.ensures.err)
 
 pub returns-clause-ok : goal.returns-clause-ok
 unfolding classes_of
 returns-clause-ok c =
-    judged_gives (source_in c.args.ground.source) (behind (map class_shown c.args.ground.library.now) (map class_shown c.args.declared.now)) c.requires.classes
-    (heads_of c.args.ground.heads.now) c.requires.ground.heads_are (is_among c.args.named.now) c.requires.named tt c.in_ok-judge_signatures.ensures.ok
+    judged_gives (source_in c.args.ground.now.source) (behind (map class_shown c.args.ground.now.library.now) (map class_shown c.args.declared.now)) c.requires.classes
+    (heads_of c.args.ground.now.heads.now) c.requires.ground.heads_are (is_among c.args.named.now) c.requires.named tt c.in_ok-judge_signatures.ensures.ok

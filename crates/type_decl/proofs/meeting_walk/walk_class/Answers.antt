@@ -17,7 +17,7 @@ use Rattle.type_decl.proofs.meeting_walk.walk_class.Goals as goal
 
 pub members-requires-clause-sites : goal.members-requires-clause-sites
 members-requires-clause-sites c =
-    source_stays (source_of c.args.sites.now) c.args.first c.requires.begins c.walk_with-walk.result (constant_at c.deref.result.now)
+    source_stays (source_of c.args.sites.now) c.args.first.now c.requires.begins c.walk_with-walk.result (constant_at c.deref.result.now)
     c.walk_with-walk.ensures.program c.walk_with-walk.ensures.known c.walk_with-walk.ensures.hidden
 
 pub returns-in_err-met-clause-err : goal.returns-in_err-met-clause-err
@@ -29,8 +29,8 @@ returns-in_err-met-clause-err c =
     (nothing_captured (source_of c.args.sites.now)) (map met_seen c.args.done.all.met.items) c.args.class.0)
     _ c.in_err-met.field-0.0
     (subst (λ (j : Judged MembersDone). IsFault j c.in_err-met.field-0.0)
-    (first_members (source_of c.args.sites.now) c.args.first c.requires.begins c.walk_with-walk.result (constant_at c.args.done.constants.items)
-    (c.walk_with-walk.ensures.program ∙ (λ i. record (program_in c.args.first.walk.bodies) { constants = constant_at (c.deref.ensures.value i) }))
+    (first_members (source_of c.args.sites.now) c.args.first.now c.requires.begins c.walk_with-walk.result (constant_at c.args.done.constants.items)
+    (c.walk_with-walk.ensures.program ∙ (λ i. record (program_in c.args.first.now.walk.bodies) { constants = constant_at (c.deref.ensures.value i) }))
     c.walk_with-walk.ensures.known c.walk_with-walk.ensures.hidden (map met_seen c.args.done.all.met.items) c.args.class.0)
     c.in_err-met.ensures.err))
 
@@ -44,8 +44,8 @@ returns-clause-ok c =
       constants = constants_behind (source_of c.args.sites.now) (map met_seen c.args.done.all.met.items) d.met (constant_at c.args.done.constants.items);
     }))
     (members_seen c.in_ok-met.field-0)
-    (sym (first_members (source_of c.args.sites.now) c.args.first c.requires.begins c.walk_with-walk.result (constant_at c.args.done.constants.items)
-    (c.walk_with-walk.ensures.program ∙ (λ i. record (program_in c.args.first.walk.bodies) { constants = constant_at (c.deref.ensures.value i) }))
+    (sym (first_members (source_of c.args.sites.now) c.args.first.now c.requires.begins c.walk_with-walk.result (constant_at c.args.done.constants.items)
+    (c.walk_with-walk.ensures.program ∙ (λ i. record (program_in c.args.first.now.walk.bodies) { constants = constant_at (c.deref.ensures.value i) }))
     c.walk_with-walk.ensures.known c.walk_with-walk.ensures.hidden (map met_seen c.args.done.all.met.items) c.args.class.0)
     ∙ c.in_ok-met.ensures.ok)
     ∙ (λ i. gives (record { met = sym c.in_ok-behind.ensures.met i; constants = sym c.in_ok-behind.ensures.constants i }))

@@ -17,14 +17,14 @@ use Rattle.type_decl.proofs.rounds.row_at.Goals as goal
 pub returns-in_ok-row-in-Some : goal.returns-in_ok-row-in-Some
 returns-in_ok-row-in-Some c = λ _ place.
     c.in_ok-row-in-Some.ensures place
-    ∙ (λ i. constant_due (program_in c.args.bodies) (c.bodies_round-round.ensures i) (record { class = record { 0 = c.in_ok-class_at-in-Some.ensures i }; at = place })
+    ∙ (λ i. constant_due (program_in c.args.bodies.now) (c.bodies_round-round.ensures i) (record { class = record { 0 = c.in_ok-class_at-in-Some.ensures i }; at = place })
     (unwrap_or (slice_get (map value_seen (c.deref.ensures.value i)) place) unwritten))
-    ∙ ap (λ (o : Option (Vec FieldValue Global)). constant_due (program_in c.args.bodies) (round_seen c.args.fields.round.now c.args.at) (record { class = class_numbered c.args.at; at = place })
+    ∙ ap (λ (o : Option (Vec FieldValue Global)). constant_due (program_in c.args.bodies.now) (round_seen c.args.fields.round.now c.args.at) (record { class = class_numbered c.args.at; at = place })
     (unwrap_or (slice_get (values_in o) place) unwritten)) c.in-Some.ensures
 
 pub returns-in-None : goal.returns-in-None
 returns-in-None c = λ _ place.
     ap (λ (cs : List (Option Constant)). constant_in (slice_get cs place)) c.new-in-None.ensures.items
-    ∙ sym (none_unwritten (program_in c.args.bodies) (round_seen c.args.fields.round.now c.args.at) (record { class = class_numbered c.args.at; at = place }))
-    ∙ ap (λ (o : Option (Vec FieldValue Global)). constant_due (program_in c.args.bodies) (round_seen c.args.fields.round.now c.args.at) (record { class = class_numbered c.args.at; at = place })
+    ∙ sym (none_unwritten (program_in c.args.bodies.now) (round_seen c.args.fields.round.now c.args.at) (record { class = class_numbered c.args.at; at = place }))
+    ∙ ap (λ (o : Option (Vec FieldValue Global)). constant_due (program_in c.args.bodies.now) (round_seen c.args.fields.round.now c.args.at) (record { class = class_numbered c.args.at; at = place })
     (unwrap_or (slice_get (values_in o) place) unwritten)) c.in-None.ensures

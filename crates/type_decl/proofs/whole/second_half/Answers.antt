@@ -14,7 +14,7 @@ pub returns-in_err-classes-clause-err : goal.returns-in_err-classes-clause-err
 returns-in_err-classes-clause-err c =
     let p = err_from_is_err_and c.from_residual-in_err-classes.result c.from_residual-in_err-classes.ensures.1 in
     rw (p.1, p.2)
-    (subst (λ vs. IsFault (code_with (source_in c.args.ground.source) (captured_seen vs) (bodies_met_seen c.args.first.bodies)) c.in_err-classes.field-0.0)
+    (subst (λ vs. IsFault (code_with (source_in c.args.ground.now.source) (captured_seen vs) (bodies_met_seen c.args.first.bodies)) c.in_err-classes.field-0.0)
     c.deref-4.ensures.value
     (c.in_err-classes.ensures.err (bodies_met_seen c.args.first.bodies) refl
     (ap (λ f. constants_shifted f (constant_at c.args.first.bodies.constants.items))
@@ -24,7 +24,7 @@ returns-in_err-classes-clause-err c =
 
 pub returns-clause-ok : goal.returns-clause-ok
 returns-clause-ok c =
-    sym (ap (λ vs. code_with (source_in c.args.ground.source) (captured_seen vs) (bodies_met_seen c.args.first.bodies)) c.deref-4.ensures.value)
+    sym (ap (λ vs. code_with (source_in c.args.ground.now.source) (captured_seen vs) (bodies_met_seen c.args.first.bodies)) c.deref-4.ensures.value)
     ∙ c.in_ok-classes.ensures.ok (bodies_met_seen c.args.first.bodies) refl
     (ap (λ f. constants_shifted f (constant_at c.args.first.bodies.constants.items))
     (sym (ap count_at c.deref-3.ensures.value ∙ c.in_ok-captured_counts.ensures

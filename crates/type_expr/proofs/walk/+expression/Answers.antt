@@ -27,15 +27,15 @@ use Rattle.type_expr.proofs.walk.+expression.Goals as goal
 
 pub assign-returns-clause-ok : goal.assign-returns-clause-ok
 assign-returns-clause-ok t c =
-    let whole = assign_is c.args.bodies c.args.scope.now c.args.op c.args.at c.args.span (view c.args.place.now) (view c.args.value.now)
-    (purpose_seen c.target_purpose.result) (seen c.in_ok-target.target.value) (seen c.in_ok-value.value.value) c.in_ok-target.target.span c.in_ok-value.value.span
-    c.target_purpose.ensures c.in_ok-target.ensures.ok c.in_ok-target.ensures.span c.in_ok-value.ensures.ok c.in_ok-value.ensures.span in
+    let whole = assign_is c.args.bodies.now c.args.scope.now c.args.op c.args.at c.args.span (view c.args.place.now) (view c.args.value.now)
+    (purpose_seen c.target_purpose.result) (seen c.in_ok-target.target.value) (seen c.in_ok-value.value.value) c.in_ok-target.target.span c.in_ok-value.value.span c.is_variable-written.result
+    c.target_purpose.ensures c.in_ok-target.ensures.ok c.in_ok-target.ensures.span c.in_ok-value.ensures.ok c.in_ok-value.ensures.span c.is_variable-written.ensures in
     subst (λ (j : Judged TypedNode). IfOk c.assigned_to.result (λ u. j ≡ gives (seen u))) (sym whole) c.assigned_to.ensures.ok
 
 pub conditional-returns-in_err-no-clause-err : goal.conditional-returns-in_err-no-clause-err
 conditional-returns-in_err-no-clause-err t c =
     let p = err_from_is_err_and c.from_residual-in_err-no.result c.from_residual-in_err-no.ensures.1 in
-    rw (p.1, p.2) (third_faults c.args.bodies c.args.scope.now c.args.at c.args.span (view c.args.condition.now) (view c.args.yes.now) (view c.args.no.now)
+    rw (p.1, p.2) (third_faults c.args.bodies.now c.args.scope.now c.args.at c.args.span (view c.args.condition.now) (view c.args.yes.now) (view c.args.no.now)
     (seen c.in_ok-condition.condition.value) (seen c.in_ok-yes.yes) _ c.in_ok-condition.ensures.ok c.in_ok-yes.ensures.ok c.in_err-no.ensures.err)
 
 -- no search finds that lists of parts are less deep in forms of four fields
@@ -82,7 +82,7 @@ pub elab_here-returns-in-CallOn-clause-ok : goal.elab_here-returns-in-CallOn-cla
 elab_here-returns-in-CallOn-clause-ok t c =
     let is : node_view c.args.expr.now ≡ call_on (view c.in-CallOn.object.value) c.in-CallOn.method (views_of c.in-CallOn.args.items) c.in-CallOn.span =
     rw c.in-CallOn.is (rw (node.outs-CallOn c.in-CallOn.object c.in-CallOn.method c.in-CallOn.args c.in-CallOn.span) refl) in
-    call_on_gives c.args.bodies c.args.scope.now (purpose_seen c.args.purpose) (node_view c.args.expr.now) (view c.in-CallOn.object.value) c.in-CallOn.method
+    call_on_gives c.args.bodies.now c.args.scope.now (purpose_seen c.args.purpose) (node_view c.args.expr.now) (view c.in-CallOn.object.value) c.in-CallOn.method
     (views_of c.in-CallOn.args.items) c.in-CallOn.span c.call_of.result is
     (rw (c.deref-in-CallOn.ensures, c.deref-in-CallOn-2.ensures.value) at c.call_of.ensures.ok)
 
@@ -90,7 +90,7 @@ pub elab_here-returns-in-CallOn-clause-err : goal.elab_here-returns-in-CallOn-cl
 elab_here-returns-in-CallOn-clause-err t c =
     let is : node_view c.args.expr.now ≡ call_on (view c.in-CallOn.object.value) c.in-CallOn.method (views_of c.in-CallOn.args.items) c.in-CallOn.span =
     rw c.in-CallOn.is (rw (node.outs-CallOn c.in-CallOn.object c.in-CallOn.method c.in-CallOn.args c.in-CallOn.span) refl) in
-    call_on_faulty c.args.bodies c.args.scope.now (purpose_seen c.args.purpose) (node_view c.args.expr.now) (view c.in-CallOn.object.value) c.in-CallOn.method
+    call_on_faulty c.args.bodies.now c.args.scope.now (purpose_seen c.args.purpose) (node_view c.args.expr.now) (view c.in-CallOn.object.value) c.in-CallOn.method
     (views_of c.in-CallOn.args.items) c.in-CallOn.span c.call_of.result is
     (rw (c.deref-in-CallOn.ensures, c.deref-in-CallOn-2.ensures.value) at c.call_of.ensures.err)
 
@@ -141,57 +141,57 @@ elab_here-returns-in-Assign-clause-ok t c =
 
 pub initialized-returns-in-Read : goal.initialized-returns-in-Read
 initialized-returns-in-Read t c =
-    record { ok = tt; err = no_type_known c.args.bodies c.args.scope.now (views_of c.args.exprs.now) c.args.span c.args.purpose c.in-Read.is }
+    record { ok = tt; err = no_type_known c.args.bodies.now c.args.scope.now (views_of c.args.exprs.now) c.args.span c.args.purpose c.in-Read.is }
 
 pub new_array_with-returns-clause-ok : goal.new_array_with-returns-clause-ok
 new_array_with-returns-clause-ok t c =
-    let whole = elements_are_made c.args.bodies c.args.scope.now (type_view c.args.of.now) c.args.dims (view c.args.init.now) c.args.span c.name_span-name.result
+    let whole = elements_are_made c.args.bodies.now c.args.scope.now (type_view c.args.of.now) c.args.dims (view c.args.init.now) c.args.span c.name_span-name.result
     (shown c.in_ok-of.of) (shown c.in_ok-ty.ty) (map part_seen c.in_ok-elements.elements.items)
     c.in_ok-of.ensures.ok c.in_ok-ty.ensures c.in_ok-elements.ensures.ok c.name_span-name.ensures in
     subst (λ (j : Judged TypedNode). IfOk c.made_with_elements.result (λ u. j ≡ gives (seen u))) (sym whole) c.made_with_elements.ensures.ok
 
 pub new_array_with-returns-clause-err : goal.new_array_with-returns-clause-err
 new_array_with-returns-clause-err t c =
-    let whole = elements_are_made c.args.bodies c.args.scope.now (type_view c.args.of.now) c.args.dims (view c.args.init.now) c.args.span c.name_span-name.result
+    let whole = elements_are_made c.args.bodies.now c.args.scope.now (type_view c.args.of.now) c.args.dims (view c.args.init.now) c.args.span c.name_span-name.result
     (shown c.in_ok-of.of) (shown c.in_ok-ty.ty) (map part_seen c.in_ok-elements.elements.items)
     c.in_ok-of.ensures.ok c.in_ok-ty.ensures c.in_ok-elements.ensures.ok c.name_span-name.ensures in
     subst (λ (j : Judged TypedNode). IfErr c.made_with_elements.result (IsFault j)) (sym whole) c.made_with_elements.ensures.err
 
 pub values-loop-expr-init : goal.values-loop-expr-init
-values-loop-expr-init t c = values_begin c.args.bodies c.args.scope.now c.args.exprs.now _ c.new-values.ensures.items
+values-loop-expr-init t c = values_begin c.args.bodies.now c.args.scope.now c.args.exprs.now _ c.new-values.ensures.items
 
 pub values-returns-in_err-value-clause-err : goal.values-returns-in_err-value-clause-err
 values-returns-in_err-value-clause-err t c =
     let p = err_from_is_err_and c.from_residual.result c.from_residual.ensures.1 in
-    rw (p.1, p.2) (values_fault c.args.bodies c.args.scope.now c.args.exprs.now c.loop-expr.expr-index c.expr-item.result c.loop-expr.values.items _
+    rw (p.1, p.2) (values_fault c.args.bodies.now c.args.scope.now c.args.exprs.now c.loop-expr.expr-index c.expr-item.result c.loop-expr.values.items _
     (omega arith) c.expr-item.is c.loop-expr.invariant c.in_err-value.ensures.err)
 
 pub values-loop-expr-preserved : goal.values-loop-expr-preserved
 values-loop-expr-preserved t c =
-    values_on c.args.bodies c.args.scope.now c.args.exprs.now c.loop-expr.expr-index c.expr-item.result c.loop-expr.values.items c.push.new.self.items c.in_ok-value.value
+    values_on c.args.bodies.now c.args.scope.now c.args.exprs.now c.loop-expr.expr-index c.expr-item.result c.loop-expr.values.items c.push.new.self.items c.in_ok-value.value
     (omega arith) c.expr-item.is c.loop-expr.invariant c.in_ok-value.ensures.ok c.in_ok-push.ensures.items
 
 pub values-returns-clause-ok : goal.values-returns-clause-ok
 values-returns-clause-ok t c =
-    values_end c.args.bodies c.args.scope.now c.args.exprs.now c.loop-expr.expr-index c.loop-expr.values.items (omega arith) c.loop-expr.invariant
+    values_end c.args.bodies.now c.args.scope.now c.args.exprs.now c.loop-expr.expr-index c.loop-expr.values.items (omega arith) c.loop-expr.invariant
 
 pub parts-loop-expr-init : goal.parts-loop-expr-init
-parts-loop-expr-init t c = parts_begin c.args.bodies c.args.scope.now (purpose_seen c.args.purpose) c.args.exprs.now _ c.new-parts.ensures.items
+parts-loop-expr-init t c = parts_begin c.args.bodies.now c.args.scope.now (purpose_seen c.args.purpose) c.args.exprs.now _ c.new-parts.ensures.items
 
 pub parts-returns-in_err-part-clause-err : goal.parts-returns-in_err-part-clause-err
 parts-returns-in_err-part-clause-err t c =
     let p = err_from_is_err_and c.from_residual.result c.from_residual.ensures.1 in
-    rw (p.1, p.2) (parts_fault c.args.bodies c.args.scope.now (purpose_seen c.args.purpose) c.args.exprs.now c.loop-expr.expr-index c.expr-item.result c.loop-expr.parts.items _
+    rw (p.1, p.2) (parts_fault c.args.bodies.now c.args.scope.now (purpose_seen c.args.purpose) c.args.exprs.now c.loop-expr.expr-index c.expr-item.result c.loop-expr.parts.items _
     (omega arith) c.expr-item.is c.loop-expr.invariant c.in_err-part.ensures.err)
 
 pub parts-loop-expr-preserved : goal.parts-loop-expr-preserved
 parts-loop-expr-preserved t c =
-    parts_on c.args.bodies c.args.scope.now (purpose_seen c.args.purpose) c.args.exprs.now c.loop-expr.expr-index c.expr-item.result c.loop-expr.parts.items c.push.new.self.items c.in_ok-part.part
+    parts_on c.args.bodies.now c.args.scope.now (purpose_seen c.args.purpose) c.args.exprs.now c.loop-expr.expr-index c.expr-item.result c.loop-expr.parts.items c.push.new.self.items c.in_ok-part.part
     (omega arith) c.expr-item.is c.loop-expr.invariant c.in_ok-part.ensures.ok c.in_ok-part.ensures.span c.in_ok-push.ensures.items
 
 pub parts-returns-clause-ok : goal.parts-returns-clause-ok
 parts-returns-clause-ok t c =
-    parts_end c.args.bodies c.args.scope.now (purpose_seen c.args.purpose) c.args.exprs.now c.loop-expr.expr-index c.loop-expr.parts.items (omega arith) c.loop-expr.invariant
+    parts_end c.args.bodies.now c.args.scope.now (purpose_seen c.args.purpose) c.args.exprs.now c.loop-expr.expr-index c.loop-expr.parts.items (omega arith) c.loop-expr.invariant
 
 pub elab_here-returns-in-SuperSelect-clause-err : goal.elab_here-returns-in-SuperSelect-clause-err
 elab_here-returns-in-SuperSelect-clause-err t c =
@@ -200,7 +200,7 @@ elab_here-returns-in-SuperSelect-clause-err t c =
 
 pub conditional-returns-clause-err : goal.conditional-returns-clause-err
 conditional-returns-clause-err t c =
-    let whole = conditional_is c.args.bodies c.args.scope.now c.args.at c.args.span (view c.args.condition.now) (view c.args.yes.now) (view c.args.no.now)
+    let whole = conditional_is c.args.bodies.now c.args.scope.now c.args.at c.args.span (view c.args.condition.now) (view c.args.yes.now) (view c.args.no.now)
     (seen c.in_ok-condition.condition.value) (seen c.in_ok-yes.yes) (seen c.in_ok-no.no) c.in_ok-condition.condition.span
     c.in_ok-condition.ensures.ok c.in_ok-condition.ensures.span c.in_ok-yes.ensures.ok c.in_ok-no.ensures.ok in
     subst (λ (j : Judged TypedNode). IfErr c.choice.result (IsFault j)) (sym whole) c.choice.ensures.err
@@ -209,21 +209,21 @@ pub call_of-returns-in_err-args-clause-err : goal.call_of-returns-in_err-args-cl
 unfolding called_on
 call_of-returns-in_err-args-clause-err t c =
     let p = err_from_is_err_and c.from_residual-in_err-args.result c.from_residual-in_err-args.ensures.1 in
-    rw (p.1, p.2) (fault_later (before_in c.args.bodies c.args.scope.now (view c.args.object.now)) _ (qualifier_seen c.in_ok-on.on) _ c.in_ok-on.ensures.ok
+    rw (p.1, p.2) (fault_later (before_in c.args.bodies.now c.args.scope.now (view c.args.object.now)) _ (qualifier_seen c.in_ok-on.on) _ c.in_ok-on.ensures.ok
     (fault_later (receiver (qualifier_seen c.in_ok-on.on)) _ _ _ c.in_ok-receiver.ensures.ok
-    (bind_faults (values_in c.args.bodies c.args.scope.now (views_of c.args.args.now)) _ _ c.in_err-args.ensures.err)))
+    (bind_faults (values_in c.args.bodies.now c.args.scope.now (views_of c.args.args.now)) _ _ c.in_err-args.ensures.err)))
 
 pub before-returns-in_err-on-in-None-clause-err : goal.before-returns-in_err-on-in-None-clause-err
 before-returns-in_err-on-in-None-clause-err t c =
     let p = err_from_is_err_and c.from_residual-in_err-on-in-None.result c.from_residual-in_err-on-in-None.ensures.1 in
-    let none : named_before (program_in c.args.bodies) (known_in c.args.bodies) (scope_seen c.args.scope.now) (view c.args.expr.now) ≡ None =
+    let none : named_before (program_in c.args.bodies.now) (known_in c.args.bodies.now) (scope_seen c.args.scope.now) (view c.args.expr.now) ≡ None =
     rw c.in-None.is at c.in_ok-named.ensures.ok in
-    rw (p.1, p.2) (value_faults (program_in c.args.bodies) (known_in c.args.bodies) (scope_seen c.args.scope.now) _ _
-    (expression_in c.args.bodies c.args.scope.now read (view c.args.expr.now)) none c.in_err-on-in-None.ensures.err)
+    rw (p.1, p.2) (value_faults (program_in c.args.bodies.now) (known_in c.args.bodies.now) (scope_seen c.args.scope.now) _ _
+    (expression_in c.args.bodies.now c.args.scope.now read (view c.args.expr.now)) none c.in_err-on-in-None.ensures.err)
 
 pub before-returns-in_ok-on-in-None-clause-ok : goal.before-returns-in_ok-on-in-None-clause-ok
 before-returns-in_ok-on-in-None-clause-ok t c =
-    let none : named_before (program_in c.args.bodies) (known_in c.args.bodies) (scope_seen c.args.scope.now) (view c.args.expr.now) ≡ None =
+    let none : named_before (program_in c.args.bodies.now) (known_in c.args.bodies.now) (scope_seen c.args.scope.now) (view c.args.expr.now) ≡ None =
     rw c.in-None.is at c.in_ok-named.ensures.ok in
-    value_stands (program_in c.args.bodies) (known_in c.args.bodies) (scope_seen c.args.scope.now) _ (seen c.in_ok-on-in-None.on)
-    (expression_in c.args.bodies c.args.scope.now read (view c.args.expr.now)) none c.in_ok-on-in-None.ensures.ok
+    value_stands (program_in c.args.bodies.now) (known_in c.args.bodies.now) (scope_seen c.args.scope.now) _ (seen c.in_ok-on-in-None.on)
+    (expression_in c.args.bodies.now c.args.scope.now read (view c.args.expr.now)) none c.in_ok-on-in-None.ensures.ok

@@ -193,7 +193,7 @@ for_each-returns-clause-stays t c =
 pub switch-returns-clause-ok : goal.switch-returns-clause-ok
 switch-returns-clause-ok t c =
     switch_is c.args.walk c.args.targets.now None (scope_seen c.args.scope.now) (progress_seen c.args.progress.now) c.args.word (view c.args.selector.now)
-    (group_views_of c.args.groups.now) (seen c.in_ok-asked.asked) (seen c.in_ok-by.by) (progress_seen c.valued.new.progress) c.in_switch-inside.result
+    (group_views_of c.args.groups.now) c.args.whole (seen c.in_ok-asked.asked) (seen c.in_ok-by.by) (progress_seen c.valued.new.progress) c.in_switch-inside.result
     (option_map (λ (n : ClassId). n.0) c.enum_of-of_enum.result) (groups_in c.in_ok-done.done (progress_seen c.switch_groups.new.progress))
     (scope_seen c.leave.new.self) (stmt_view c.in_ok-code.code)
     (done_seen c.in_ok-whole.whole c.leave.new.self c.switch_groups.new.progress)
@@ -712,7 +712,7 @@ pub switch-returns-in_err-done-clause-err : goal.switch-returns-in_err-done-clau
 switch-returns-in_err-done-clause-err t c =
     let p = err_from_is_err_and c.from_residual-in_err-done.result c.from_residual-in_err-done.ensures.1 in
     rw (p.1, p.2) (switch_fails c.args.walk c.args.targets.now None (scope_seen c.args.scope.now) (progress_seen c.args.progress.now) _ c.args.word (view c.args.selector.now) (seen c.in_ok-asked.asked) (progress_seen c.valued.new.progress)
-    c.in_ok-asked.ensures.ok c.in_ok-asked.ensures.met (group_views_of c.args.groups.now) c.in_switch-inside.result
+    c.in_ok-asked.ensures.ok c.in_ok-asked.ensures.met (group_views_of c.args.groups.now) c.args.whole c.in_switch-inside.result
     (option_map (λ (n : ClassId). n.0) c.enum_of-of_enum.result) c.in_switch-inside.ensures c.enum_of-of_enum.ensures
     c.in_err-done.ensures.err)
 
@@ -720,7 +720,7 @@ pub switch-returns-in_err-code-clause-err : goal.switch-returns-in_err-code-clau
 switch-returns-in_err-code-clause-err t c =
     let p = err_from_is_err_and c.from_residual-in_err-code.result c.from_residual-in_err-code.ensures.1 in
     rw (p.1, p.2) (switch_code_fails c.args.walk c.args.targets.now None (scope_seen c.args.scope.now) (progress_seen c.args.progress.now) _ c.args.word (view c.args.selector.now) (seen c.in_ok-asked.asked) (progress_seen c.valued.new.progress)
-    c.in_ok-asked.ensures.ok c.in_ok-asked.ensures.met (group_views_of c.args.groups.now) c.in_switch-inside.result
+    c.in_ok-asked.ensures.ok c.in_ok-asked.ensures.met (group_views_of c.args.groups.now) c.args.whole c.in_switch-inside.result
     (option_map (λ (n : ClassId). n.0) c.enum_of-of_enum.result) c.in_switch-inside.ensures c.enum_of-of_enum.ensures
     (groups_in c.in_ok-done.done (progress_seen c.switch_groups.new.progress)) (seen c.in_ok-by.by) c.in_ok-done.ensures.ok c.in_ok-by.ensures
     (c.in_err-code.ensures.err (progress_seen c.switch_groups.new.progress)))

@@ -1,0 +1,4 @@
+pub mod Written
+pub mod Bodies
+pub mod Fitting
+pub mod Laws

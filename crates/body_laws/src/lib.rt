@@ -1,0 +1,13 @@
+//! What the elaboration of a body gives fits (`specs/Laws.antt`): `Fits` of `je_fitting`, for the statements that
+//! `body_typing` gives, where the core program has what the classes declare, and the body has the locals that are
+//! declared in it.
+//!
+//! The crate has no code: each function states laws of `body_typing`.
+#![tactic(auto)]
+
+ghost use Rattle.body_laws.specs.Laws.{BodiesFit};
+
+/// The statements of a block fit (JLS 14.2).
+pub fn bodies_fit()
+    ensures { BodiesFit }
+{}

@@ -1,0 +1,7 @@
+mod Scopes
+mod Initializers
+mod Methods
+mod Heads
+mod Members
+mod Enums
+pub mod Unwritten

@@ -1,0 +1,5 @@
+pub mod Elaborated
+pub mod Premises
+pub mod Sound
+pub mod TextsOnce
+pub mod Laws

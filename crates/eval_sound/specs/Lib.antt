@@ -1,0 +1,4 @@
+pub mod Nodes
+pub mod Safety
+pub mod Premises
+pub mod Laws

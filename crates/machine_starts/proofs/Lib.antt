@@ -1,0 +1,4 @@
+pub mod Marking
+pub mod Initializing
+pub mod Loading
+pub mod Nodes

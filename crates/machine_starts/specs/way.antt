@@ -1,0 +1,2 @@
+-- What only proofs and the clauses of private functions cite.
+pub mod Starting

@@ -1,4 +1,0 @@
-pub mod Seen
-pub mod Elaborated
-pub mod Bodies
-pub mod Built

@@ -1,4 +1,0 @@
-pub mod Sizes
-pub mod Replying
-pub mod Answering
-pub mod OneAnswer

@@ -1,4 +1,0 @@
-pub mod Trees
-pub mod Height
-pub mod Grammar
-pub mod way
