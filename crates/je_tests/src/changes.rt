@@ -8,7 +8,7 @@ use text_members::{append, appended, copied, has_room, joined, replaced, with_un
 // Whether these units were made, or none where `letters` is `-`.
 fn is_made(made: Result<Option<Units>, Memory>, letters: &str) -> bool {
     match made {
-        Ok(Some(units)) => spells(&units, letters),
+        Ok(Some(units)) => spells(units.as_slice(), letters),
         Ok(None) => letters == "-",
         Err(Memory) => false,
     }
@@ -21,7 +21,7 @@ fn is_exchanged(alloc: Global, whole: &str, old: u16, new: u16, letters: &str) -
     let Ok(made) = replaced(alloc, whole.as_slice(), old, new) else {
         return false;
     };
-    spells(&made, letters)
+    spells(made.as_slice(), letters)
 }
 
 fn is_set(alloc: Global, whole: &str, place: i32, unit: u16, letters: &str) -> bool {
@@ -65,8 +65,8 @@ fn is_both(alloc: Global, whole: &str, more: &str, letters: &str) -> bool {
     let (Ok(grown), Ok(new)) = (both(alloc, whole, more), joined(alloc, whole, more)) else {
         return false;
     };
-    spells(&grown, letters)
-        && spells(&new, letters)
+    spells(grown.as_slice(), letters)
+        && spells(new.as_slice(), letters)
         && is_made(appended(alloc, whole, more), letters)
 }
 

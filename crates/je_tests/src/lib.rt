@@ -48,8 +48,7 @@ fn text(alloc: Global, letters: &str) -> Result<Units, Memory> {
 
 // Whether units spell an ASCII text.
 #[cfg(test)]
-fn spells(units: &Units, letters: &str) -> bool {
-    let units = units.as_slice();
+fn spells(units: &[u16], letters: &str) -> bool {
     let letters = letters.as_bytes();
     if units.len() != letters.len() {
         return false;

@@ -1,7 +1,8 @@
 // One call or two of a member of each class, with what Java gives.
 
+use crate::{spells, text as units};
 use class_names::library_words;
-use je_core::{Base, ClassId, Memory, Names, Obj, ObjId, Program, Slots, Ty, Units, Value};
+use je_core::{Base, ClassId, Memory, Names, Obj, ObjId, Program, Slots, Ty, Value};
 use je_heap::Heap;
 use je_table::{LibraryClass, member_rows};
 use library_classes::library_classes;
@@ -13,14 +14,6 @@ const INT: Ty = Ty {
     base: Base::Int,
     dims: 0,
 };
-
-fn units(alloc: Global, text: &str) -> Result<Units, Memory> {
-    let mut units = Units::new(alloc);
-    for byte in text.as_bytes() {
-        units.push(*byte as u16)?;
-    }
-    Ok(units)
-}
 
 fn slots(alloc: Global, values: &[Value]) -> Result<Slots, Memory> {
     let mut slots = Slots::new(alloc);
@@ -60,19 +53,10 @@ fn fill(alloc: Global, heap: &mut Heap) -> Result<(), Memory> {
 
 // Whether a text or builder has these letters.
 fn is_spelled(heap: &Heap, id: u64, letters: &str) -> bool {
-    let Some(units) = heap.units(ObjId(id)) else {
-        return false;
-    };
-    let letters = letters.as_bytes();
-    if units.len() != letters.len() {
-        return false;
+    match heap.units(ObjId(id)) {
+        Some(found) => spells(found, letters),
+        None => false,
     }
-    for (unit, letter) in units.iter().zip(letters) {
-        if *unit != *letter as u16 {
-            return false;
-        }
-    }
-    true
 }
 
 fn text() -> Value {

@@ -6,7 +6,7 @@ use text_numbers::{hex_text, int_text, long_text, truth_text, unit_text};
 
 fn is_made(made: Result<Units, Memory>, letters: &str) -> bool {
     match made {
-        Ok(units) => spells(&units, letters),
+        Ok(units) => spells(units.as_slice(), letters),
         Err(Memory) => false,
     }
 }
