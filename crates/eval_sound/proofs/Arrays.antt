@@ -53,7 +53,7 @@ same-element s t e =
     let d' : s.dims ≡ t.dims = omega (arith, d) in
     ap (λ (b : Base). let u : Ty = record { base = b; dims = s.dims } in u) (ap (λ (u : Ty). u.base) e) ∙ ap (λ (n : ℕ). let u : Ty = record { base = t.base; dims = n } in u) d'
 
-alike-at : (element : Ty) (slots : List Value) (at : ℕ) → at < length slots → slice_get (map (λ (slot : Value). element) slots) at ≡ Some element
+pub alike-at : (element : Ty) (slots : List Value) (at : ℕ) → at < length slots → slice_get (map (λ (slot : Value). element) slots) at ≡ Some element
 alike-at element [] at l = absurd (omega (arith, l))
 alike-at element (v ∷ slots) zero l = refl
 alike-at element (v ∷ slots) (suc at) l = alike-at element slots at (omega (arith, l))
@@ -81,20 +81,20 @@ whole-type : (ty : Ty) (n : ℕ) → suc n ≤ ty.dims → array_of (element_of 
 whole-type ty n l = let d : suc (ty.dims - 1) ≡ ty.dims = omega (arith, l) in ap (λ (m : ℕ). let u : Ty = record { base = ty.base; dims = m } in u) d
 
 module _ {S : Setting} where
-  element-slot : {w : List Obj} {t : Ty} {o : ObjId} {extent : Extent} {at : ℕ} → HasExtent S t o w extent → at < extent.count → HasSlot S w o at extent.element
+  pub element-slot : {w : List Obj} {t : Ty} {o : ObjId} {extent : Extent} {at : ℕ} → HasExtent S t o w extent → at < extent.count → HasSlot S w o at extent.element
   element-slot {o = o} {extent = extent} {at = at} h l = record {
     there = λ world s g.
         let k = g.kept o.0 h.shape.object h.shape.there in
         ap (λ x. slot_type_in S.program x at) k.there ∙ array-slot S.program k.object extent.element extent.count at (k.alike ∙ h.shape.alike) l;
   }
 
-  extent-more : {w later : List Obj} {t : Ty} {o : ObjId} {extent : Extent} → Grows w later → HasExtent S t o w extent → HasExtent S t o later extent
+  pub extent-more : {w later : List Obj} {t : Ty} {o : ObjId} {extent : Extent} → Grows w later → HasExtent S t o w extent → HasExtent S t o later extent
   extent-more {o = o} g h =
       let k = g.kept o.0 h.shape.object h.shape.there in
       record { shape = record { object = k.object; there = k.there; alike = k.alike ∙ h.shape.alike }; agree = h.agree }
 
 module _ {S : Setting} (fit : Known S.program) where
-  safe-get_extent : {c : Context} {w : List Obj} {t : Ty} {o : ObjId} → ValueFits S.program w (array_of t) (value.Ref o) → Safe S c w (HasExtent S t o) (get_extent o)
+  pub safe-get_extent : {c : Context} {w : List Obj} {t : Ty} {o : ObjId} → ValueFits S.program w (array_of t) (value.Ref o) → Safe S c w (HasExtent S t o) (get_extent o)
   unfolding get_extent
   safe-get_extent {t = t} {o = o} f = record {
     run = λ go exits g x. record {
@@ -111,7 +111,7 @@ module _ {S : Setting} (fit : Known S.program) where
   unfolding length_of
   safe-length_of f = bind_object (safe-deref fit refl f) λ later l o h. safe-bind (safe-get_extent h) λ last l' extent e. safe-ret _ (int-fits S.program last _)
 
-  safe-place_of : {c : Context} {w : List Obj} {v : Value} (count : ℕ) → (x : ℤ) × (v ≡ value.Int x) → Safe S c w (IsWithin count) (place_of S.program count v)
+  pub safe-place_of : {c : Context} {w : List Obj} {v : Value} (count : ℕ) → (x : ℤ) × (v ≡ value.Int x) → Safe S c w (IsWithin count) (place_of S.program count v)
   safe-place_of {c = c} {w = w} count (z, e) = subst (λ v. Safe S c w (IsWithin count) (place_of S.program count v)) (sym e) (at-number z)
     where
       by : (at : ℕ) (b : Bool) → nat_lt at count ≡ b → Safe S c w (IsWithin count) (or_raise S.program array_index (if b then Some at else None))
@@ -162,7 +162,7 @@ module _ {S : Setting} (fit : Known S.program) where
 
   -- ---- new arrays
 
-  all-of-more : {w later : List Obj} {t : Ty} {values : List Value} → Grows w later → AllOf S t w values → AllOf S t later values
+  pub all-of-more : {w later : List Obj} {t : Ty} {values : List Value} → Grows w later → AllOf S t w values → AllOf S t later values
   all-of-more {t = t} {values = values} l f = record { each = (all-more l (record { each = f.each })).each }
 
   pub all-of-push : {w : List Obj} {t : Ty} {values : List Value} {v : Value} → AllOf S t w values → ValueFits S.program w t v → AllOf S t w (values ++ v ∷ [])

@@ -1,22 +1,18 @@
 -- Strings that are joined: each value comes to its text, an object by its `toString()`.
-use Rattle.je_sound.proofs.Library.{there-too}
-use Rattle.std.proofs.Common.{◌≡◌, ℕ, List, [], ◌++◌, Option, Some, None, refl, sym, ap, subst, ◌∙◌, arith}
-use Rattle.std.specs.Prelude.{Bool, true, false, slice_get, nat_eq, codes, if◌then◌else◌}
-use Rattle.std.specs.List.{list_any, Contains}
+use Rattle.std.proofs.Common.{◌≡◌, ℕ, List, [], ◌++◌, Some, refl, sym, ap, subst, ◌∙◌}
+use Rattle.std.specs.Prelude.{Bool, true, false, slice_get, codes, if◌then◌else◌}
+use Rattle.std.specs.List.{list_any}
 use Rattle.std.specs.Str.{bytes_eq}
-use Rattle.std.proofs.lemmas.Bool.Decides.{nat_tests}
-use Rattle.std.proofs.lemmas.Slice.Eq.{bytes_eq-Decides}
 use Rattle.je_base.specs.declared.span.NameId.{NameId}
 use Rattle.je_core.specs.declared.object.Obj.{Obj}
 use Rattle.je_core.specs.declared.types.Ty.{Ty}
 use Rattle.je_core.specs.declared.value.ObjId.{ObjId}
 use Rattle.je_core.specs.declared.value.Value.{Value}
 use Rattle.je_core.specs.declared.value.Value.TheVariants as value
-use Rattle.je_core.specs.Core.{CoreMethod, CoreClass, CoreProgram}
+use Rattle.je_core.specs.Core.{CoreMethod, CoreProgram}
 use Rattle.je_classes.specs.Hierarchy.{library_class, object_class}
-use Rattle.je_classes.specs.Members.{constructor_place, same_name, is_name_of, methods_in}
+use Rattle.je_classes.specs.Members.{methods_in}
 use Rattle.je_classes.specs.Subtypes.{class_type, is_reference}
-use Rattle.je_classes.proofs.Lists.{contains-any}
 use Rattle.je_classes.proofs.Same.{same_type-equal}
 use Rattle.class_names.specs.Words.{library_words, class_words, member_words, further_words}
 use Rattle.je_fitting.specs.Expressions.{method_at, is_constructor}
@@ -35,7 +31,8 @@ use Rattle.eval_sound.proofs.Moves.{any, fits-more, safe-ret, safe-bind, safe-ne
 use Rattle.eval_sound.specs.Laws.{MeaningsAreSafe}
 use Rattle.eval_sound.proofs.Results.{whole}
 use Rattle.eval_sound.proofs.Steps.{IsOf, goes, safe-get_type}
-use Rattle.eval_sound.proofs.Texts.{string-units, apart}
+use Rattle.eval_sound.proofs.Texts.{string-units}
+use Rattle.eval_sound.proofs.Named.{method-named, method-there}
 use Rattle.eval_sound.proofs.Types.{Known, object-up, string-itself}
 use Rattle.eval_sound.proofs.Values.{Formed, bool, byte, short, char, int, long, null, reference, formed}
 
@@ -43,25 +40,15 @@ use Rattle.eval_sound.proofs.Values.{Formed, bool, byte, short, char, int, long,
 
 record ToStringDue (number : List ℕ → NameId) : Type 0 where
   method : CoreMethod
-  maker : CoreMethod
   there : slice_get (methods_in (slice_get (all_due number) object_class.0)) to_string_place ≡ Some method
-  maker_there : slice_get (methods_in (slice_get (all_due number) object_class.0)) constructor_place ≡ Some maker
   instance : method.flags.is_static ≡ false
   params : method.params ≡ []
   returns : method.returns ≡ string
   name : method.name ≡ number (codes "toString")
-  maker_name : maker.name ≡ number (codes "new")
 
 to-string-due : (number : List ℕ → NameId) → ToStringDue number
-unfolding library_class object_class all_due rows to_string_place constructor_place
-to-string-due number = record { method = _; maker = _; there = refl; maker_there = refl; instance = refl; params = refl; returns = refl; name = refl; maker_name = refl }
-
-word-there : (word : List ℕ) → list_any (bytes_eq word) library_words ≡ true → Contains library_words word
-word-there word h = let p = contains-any (bytes_eq word) library_words h in subst (Contains library_words) (sym ((bytes_eq-Decides word p.element).0 p.passes)) p.there
-
-new-there : list_any (bytes_eq (codes "new")) library_words ≡ true
-unfolding library_words class_words member_words further_words
-new-there = refl
+unfolding library_class object_class all_due rows to_string_place
+to-string-due number = record { method = _; there = refl; instance = refl; params = refl; returns = refl; name = refl }
 
 to-string-word : list_any (bytes_eq (codes "toString")) library_words ≡ true
 unfolding library_words class_words member_words further_words
@@ -79,27 +66,14 @@ record HasToString (p : CoreProgram) : Type 0 where
   returns : method.returns ≡ string
 
 has-to-string : (p : CoreProgram) → LibraryStands p → HasToString p
-has-to-string p s = record { method = d.method; there = at to_string_place d.method d.there; instance = d.instance; plain = plain; params = d.params; returns = d.returns }
-  where
-    d : ToStringDue s.number
-    d = to-string-due s.number
-
-    at : (place : ℕ) (m : CoreMethod) → slice_get (methods_in (slice_get (all_due s.number) object_class.0)) place ≡ Some m → method_at p object_class place ≡ Some m
-    at place m e = by (slice_get (all_due s.number) object_class.0) refl e
-      where
-        by : (o : Option CoreClass) → slice_get (all_due s.number) object_class.0 ≡ o → slice_get (methods_in o) place ≡ Some m → method_at p object_class place ≡ Some m
-        by None q h = absurd cc
-        by (Some c) q h = ap (λ o. slice_get (methods_in o) place) (there-too p s object_class c q) ∙ h
-
-    differ : (b : Bool) → nat_eq (s.number (codes "new")).0 (s.number (codes "toString")).0 ≡ b → b ≡ false
-    differ false q = refl
-    differ true q =
-        let one : s.number (codes "new") ≡ s.number (codes "toString") = grind (arith, nat_tests) in
-        let text = s.one_text (codes "new") (codes "toString") (word-there (codes "new") new-there) (word-there (codes "toString") to-string-word) one in
-        apart ((bytes_eq-Decides (codes "new") (codes "toString")).1 text) words-differ
-
-    plain : is_constructor p d.method ≡ false
-    plain = ap (is_name_of d.method.name) (at constructor_place d.maker d.maker_there) ∙ ap (λ x. same_name x d.method.name) d.maker_name ∙ ap (λ x. same_name (s.number (codes "new")) x) d.name ∙ differ _ refl
+has-to-string p s = let d = to-string-due s.number in record {
+  method = d.method;
+  there = method-there p s object_class to_string_place d.method d.there;
+  instance = d.instance;
+  plain = method-named p s d.method (codes "toString") d.name to-string-word words-differ;
+  params = d.params;
+  returns = d.returns;
+}
 
 -- how an object tells itself
 pub record Tells (S : Setting) (c : Context) (t : Ty) (tell : ObjId → Computation Value) : Type 0 where

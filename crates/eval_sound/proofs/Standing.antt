@@ -12,7 +12,7 @@ use Rattle.je_classes.specs.Hierarchy.{class_at, library_class, supers_in, Below
 use Rattle.je_classes.proofs.Below.{below-from}
 use Rattle.je_classes.proofs.Lists.{contains-here}
 use Rattle.je_fitting.specs.Expressions.{can_be_made}
-use Rattle.je_java.specs.Raised.{null_pointer, arithmetic, array_index, array_store, negative_size, class_cast}
+use Rattle.je_java.specs.Raised.{null_pointer, arithmetic, array_index, array_store, negative_size, class_cast, string_index, number_format, illegal_state}
 use Rattle.je_sound.specs.Objects.{throwable_class}
 use Rattle.library_classes.specs.Library.{LibraryStands, all_due, class_due, rows}
 
@@ -76,6 +76,25 @@ place-due : (number : List ℕ → NameId) → IsDue number array_index index_ex
 unfolding library_class array_index all_due rows
 place-due number = record { class = class_due number 36 (class_row class.ArrayIndexOutOfBoundsException); there = refl; made = refl; others = []; supers = refl }
 
+abbrev argument_exception : ClassId
+argument_exception = library_class (codes "java.lang.IllegalArgumentException")
+
+argument-due : (number : List ℕ → NameId) → IsDue number argument_exception runtime_exception
+unfolding library_class all_due rows
+argument-due number = record { class = class_due number 30 (class_row class.IllegalArgumentException); there = refl; made = refl; others = []; supers = refl }
+
+state-due : (number : List ℕ → NameId) → IsDue number illegal_state runtime_exception
+unfolding library_class illegal_state all_due rows
+state-due number = record { class = class_due number 31 (class_row class.IllegalStateException); there = refl; made = refl; others = []; supers = refl }
+
+string-place-due : (number : List ℕ → NameId) → IsDue number string_index index_exception
+unfolding library_class string_index all_due rows
+string-place-due number = record { class = class_due number 37 (class_row class.StringIndexOutOfBoundsException); there = refl; made = refl; others = []; supers = refl }
+
+format-due : (number : List ℕ → NameId) → IsDue number number_format argument_exception
+unfolding library_class number_format all_due rows
+format-due number = record { class = class_due number 38 (class_row class.NumberFormatException); there = refl; made = refl; others = []; supers = refl }
+
 module _ (p : CoreProgram) (s : LibraryStands p) where
   up : {k d last : ClassId} → IsDue s.number k d → Below p d last → Below p k last
   up {k = k} {d = d} q r = above (subst (λ cs. Contains cs d) (sym (ap supers_in (there-too p s k q.class q.there) ∙ q.supers)) (contains-here d q.others)) r
@@ -106,3 +125,12 @@ module _ (p : CoreProgram) (s : LibraryStands p) where
 
   pub raises-index : CanRaise p array_index
   raises-index = raises (place-due s.number) (up (index-due s.number) runtime-below)
+
+  pub raises-state : CanRaise p illegal_state
+  raises-state = raises (state-due s.number) runtime-below
+
+  pub raises-string-index : CanRaise p string_index
+  raises-string-index = raises (string-place-due s.number) (up (index-due s.number) runtime-below)
+
+  pub raises-format : CanRaise p number_format
+  raises-format = raises (format-due s.number) (up (argument-due s.number) runtime-below)

@@ -160,6 +160,12 @@ reference-agrees p s t r e = by (agree-cases p s t e)
 pub int-fits : (p : CoreProgram) (objects : List Obj) (x : ℤ) → ValueFits p objects (of base.Int) (value.Int x)
 int-fits p objects x = record { own = of base.Int; has = refl; agree = refl }
 
+pub long-fits : (p : CoreProgram) (objects : List Obj) (x : ℤ) → ValueFits p objects (of base.Long) (value.Long x)
+long-fits p objects x = record { own = of base.Long; has = refl; agree = refl }
+
+pub char-fits : (p : CoreProgram) (objects : List Obj) (n : ℕ) → ValueFits p objects (of base.Char) (value.Char n)
+char-fits p objects n = record { own = of base.Char; has = refl; agree = refl }
+
 pub truth-fits : (p : CoreProgram) (objects : List Obj) (b : Bool) → ValueFits p objects (of base.Bool) (value.Bool b)
 truth-fits p objects b = record { own = of base.Bool; has = refl; agree = refl }
 
@@ -199,6 +205,16 @@ long-by e (long {x = x}) = (x, refl)
 long-by e (null r) = not-reference base.Long e refl r
 long-by e (reference r) = not-reference base.Long e refl r
 
+char-by : {t : Ty} {v : Value} → t ≡ of base.Char → Formed t v → (n : ℕ) × (v ≡ value.Char n)
+char-by e bool = differ base.Bool base.Char e refl
+char-by e byte = differ base.Byte base.Char e refl
+char-by e short = differ base.Short base.Char e refl
+char-by e (char {n = n}) = (n, refl)
+char-by e int = differ base.Int base.Char e refl
+char-by e long = differ base.Long base.Char e refl
+char-by e (null r) = not-reference base.Char e refl r
+char-by e (reference r) = not-reference base.Char e refl r
+
 bool-by : {t : Ty} {v : Value} → t ≡ of base.Bool → Formed t v → (b : Bool) × (v ≡ value.Bool b)
 bool-by e (bool {b = b}) = (b, refl)
 bool-by e byte = differ base.Byte base.Bool e refl
@@ -214,6 +230,9 @@ int-of e f = int-by e (formed f)
 
 pub long-of : {p : CoreProgram} {objects : List Obj} {t : Ty} {v : Value} → t ≡ of base.Long → ValueFits p objects t v → (x : ℤ) × (v ≡ value.Long x)
 long-of e f = long-by e (formed f)
+
+pub char-of : {p : CoreProgram} {objects : List Obj} {t : Ty} {v : Value} → t ≡ of base.Char → ValueFits p objects t v → (n : ℕ) × (v ≡ value.Char n)
+char-of e f = char-by e (formed f)
 
 pub bool-of : {p : CoreProgram} {objects : List Obj} {t : Ty} {v : Value} → t ≡ of base.Bool → ValueFits p objects t v → (b : Bool) × (v ≡ value.Bool b)
 bool-of e f = bool-by e (formed f)
