@@ -1,0 +1,11 @@
+mod Holders
+mod Arguments
+mod Texts
+mod Builders
+mod Numbers
+mod RowObjects
+mod Throwables
+mod Cases
+mod Classes
+mod Members
+mod Rows

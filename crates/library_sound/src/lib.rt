@@ -1,0 +1,27 @@
+//! The library's part of type soundness: a tame member of the library that can run gives what it is declared to give, or
+//! throws, on a receiver and arguments that fit it; it never comes to `Wrong`. Definitions and laws alone.
+//!
+//! - `specs/Laws.antt`: which members are tame, and the two laws.
+//!
+//! Proofs go by the members: what arguments come to (`proofs/Arguments.antt`), what receivers hold (`Holders.antt`), each
+//! member of a class (`Texts.antt`, `Builders.antt`, `Numbers.antt`, `RowObjects.antt`, `Throwables.antt`), then the classes
+//! in the order of the table (`Classes.antt`, `Members.antt`).
+#![tactic(auto)]
+
+ghost use Rattle.library_sound.specs.Laws.{MakersAreSafe, MembersAreSafe};
+
+use je_classes::subtypes_are_decided;
+
+/// A tame method of the library, or a constructor that is handed its object, is safe.
+pub fn members_are_safe()
+    ensures { MembersAreSafe }
+{
+    subtypes_are_decided();
+}
+
+/// So is a tame constructor that makes its object itself: those of strings, builders and rows.
+pub fn makers_are_safe()
+    ensures { MakersAreSafe }
+{
+    subtypes_are_decided();
+}
