@@ -42,7 +42,7 @@ use Rattle.eval_sound.proofs.News.{guest-instances}
 use Rattle.eval_sound.proofs.Operators.{either-way}
 use Rattle.eval_sound.proofs.Receivers.{safe-get_receiving_class, dispatches}
 use Rattle.eval_sound.proofs.Results.{void-agrees, real-agrees}
-use Rattle.eval_sound.proofs.Finals.{apart}
+use Rattle.library_fits.proofs.Table.{apart}
 use Rattle.eval_sound.proofs.Types.{Known, agree-itself, fits-above}
 use Rattle.eval_sound.proofs.Values.{reference-above}
 

@@ -40,7 +40,7 @@ use Rattle.eval_sound.specs.Laws.{MeaningsAreSafe}
 use Rattle.eval_sound.proofs.Parts.{bind_part}
 use Rattle.eval_sound.proofs.Results.{real-by, real-reference}
 use Rattle.eval_sound.proofs.Steps.{safe-get_local, safe-put_local}
-use Rattle.eval_sound.proofs.Finals.{apart}
+use Rattle.library_fits.proofs.Table.{apart}
 use Rattle.eval_sound.proofs.Types.{Known, fits-above}
 use Rattle.eval_sound.proofs.Updates.{safe-updated}
 use Rattle.eval_sound.proofs.Values.{reference-below, int-fits}

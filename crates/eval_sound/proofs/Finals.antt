@@ -1,7 +1,7 @@
 -- Final classes of the library whose objects are no instances: what fits such a class's type is an object of the class itself.
-use Rattle.std.proofs.Common.{◌≡◌, ℕ, List, [], ◌∷◌, Option, Some, None, refl, sym, ap, subst, ◌∙◌, inl, inr, arith}
-use Rattle.std.specs.Prelude.{is_some, Bool, true, false, ◌&&◌, ◌||◌, ◌⊎◌, slice_get, nat_lt, if◌then◌else◌}
-use Rattle.std.specs.List.{Contains, list_all, list_any}
+use Rattle.std.proofs.Common.{◌≡◌, ℕ, List, Option, Some, None, refl, sym, ap, subst, ◌∙◌, inl, inr, arith}
+use Rattle.std.specs.Prelude.{Bool, true, false, ◌||◌, ◌⊎◌, slice_get, nat_lt, if◌then◌else◌}
+use Rattle.std.specs.List.{Contains, list_any}
 use Rattle.std.proofs.lemmas.List.Elements.{All-contains}
 use Rattle.std.proofs.lemmas.Option.{same_Some}
 use Rattle.je_base.specs.declared.span.NameId.{NameId}
@@ -15,12 +15,11 @@ use Rattle.je_core.specs.declared.value.Value.TheVariants.{Ref}
 use Rattle.je_core.specs.Core.{CoreClass, CoreProgram}
 use Rattle.je_classes.specs.Hierarchy.{class_at, with_superclass, supers_in, supers_of, same_class, is_below, Below, same, above, object_class}
 use Rattle.je_classes.specs.Subtypes.{class_type, array_of}
-use Rattle.je_classes.proofs.Below.{below-to, same_class-equal}
-use Rattle.je_classes.proofs.Lists.{contains-any, contains-cases}
+use Rattle.je_classes.proofs.Below.{below-to}
+use Rattle.je_classes.proofs.Lists.{contains-cases}
 use Rattle.je_fitting.specs.Classes.{can_be_extended, is_interface, SuperclassFits, one_above}
 use Rattle.je_fitting.specs.Members.{is_guest}
 use Rattle.je_fitting.specs.Types.{agrees}
-use Rattle.je_fitting.proofs.Booleans.{two}
 use Rattle.je_fitting.proofs.ClassesDecided.{at-place}
 use Rattle.je_java.specs.World.{World, class_in, type_in}
 use Rattle.je_sound.specs.Objects.{has_instances, throwable_class, token_class, IsObject, an_instance, ObjectFits}
@@ -30,19 +29,10 @@ use Rattle.je_sound.proofs.Dispatched.{class-fits}
 use Rattle.je_sound.proofs.Library.{there-too}
 use Rattle.je_sound.proofs.Members.{classes-agree, array-agrees}
 use Rattle.library_classes.specs.Library.{all_due}
+use Rattle.library_fits.proofs.Rounds.{IsRound, round-above}
+use Rattle.library_fits.proofs.Table.{apart}
 use Rattle.eval_sound.proofs.Operators.{either-way}
 use Rattle.eval_sound.proofs.Types.{Known}
-
-pub apart : {A : Type 0} {b : Bool} → b ≡ true → b ≡ false → A
-apart e f = absurd (let z = sym e ∙ f in no z)
-  where
-    no : true ≡ false → ⊥
-    no q = absurd cc
-
--- a class of the library, and each class above it, is among these
-abbrev pub is_within : (List ℕ → NameId) → List ClassId → ClassId → Bool
-is_within number round c =
-    is_some (slice_get (all_due number) c.0) && list_all (λ d. list_any (same_class d) round) (supers_in (slice_get (all_due number) c.0))
 
 -- a final class, and the classes of which one is Throwable only if it is among those above it
 pub record FinalDue (number : List ℕ → NameId) (k : ClassId) : Type 0 where
@@ -51,8 +41,7 @@ pub record FinalDue (number : List ℕ → NameId) (k : ClassId) : Type 0 where
   pub final : can_be_extended (Some class) ≡ false
   pub plain : is_interface (Some class) ≡ false
   pub round : List ClassId
-  pub closed : list_all (is_within number round) round ≡ true
-  pub among : list_any (same_class k) round ≡ true
+  pub is_round : IsRound number k round
   pub not_throwable : list_any (same_class throwable_class) round ≡ false
   pub not_object : same_class k object_class ≡ false
   pub bare : (is_guest k || same_class k object_class || same_class k token_class) ≡ false
@@ -65,39 +54,13 @@ pub record ObjectOf (p : CoreProgram) (objects : List Obj) (k : ClassId) (o : Ob
   pub class : class_in (Some object) ≡ Some k
   pub no_instance : has_instances p k ≡ true → ⊥
 
-all-of : {A : Type 0} (test : A → Bool) (xs : List A) → list_all test xs ≡ true → (x : A) → Contains xs x → test x ≡ true
-all-of test [] e x h = absurd (omega (arith, h.1))
-all-of test (y ∷ ys) e x h = let both = two {a = test y} {b = list_all test ys} e in by (all-of test ys both.1 x) both.0 (contains-cases y x ys h)
-  where
-    by : (Contains ys x → test x ≡ true) → test y ≡ true → (y ≡ x) ⊎ Contains ys x → test x ≡ true
-    by rest first (inl q) = subst (λ z. test z ≡ true) q first
-    by rest first (inr q) = rest q
-
 module _ (p : CoreProgram) (known : Known p) (k : ClassId) (due : FinalDue known.library.number k) where
-  -- the classes above those of the list are in it
-  above-within : (c d : ClassId) → list_any (same_class c) due.round ≡ true → Contains (supers_of p c) d → list_any (same_class d) due.round ≡ true
-  above-within c d e i = by (slice_get (all_due known.library.number) c.0) refl
-      (two {a = is_some (slice_get (all_due known.library.number) c.0)} (all-of (is_within known.library.number due.round) due.round due.closed c in-round))
-    where
-      in-round : Contains due.round c
-      in-round = let x = contains-any (same_class c) due.round e in subst (Contains due.round) (sym (same_class-equal c x.element x.passes)) x.there
-
-      by : (o : Option CoreClass) → slice_get (all_due known.library.number) c.0 ≡ o →
-          (is_some o ≡ true) × (list_all (λ x. list_any (same_class x) due.round) (supers_in o) ≡ true) → list_any (same_class d) due.round ≡ true
-      by None q h = absurd cc
-      by (Some class) q h =
-          all-of (λ x. list_any (same_class x) due.round) (supers_in (Some class)) h.1 d (subst (λ xs. Contains xs d) (ap supers_in (there-too p known.library c class q)) i)
-
-  below-within : {c d : ClassId} → Below p c d → list_any (same_class c) due.round ≡ true → list_any (same_class d) due.round ≡ true
-  below-within same e = e
-  below-within (above {c = c} {e = over} i r) e = below-within r (above-within c over e i)
-
   not-thrown : is_below p k throwable_class ≡ false
   not-thrown = by (is_below p k throwable_class) refl
     where
       by : (b : Bool) → is_below p k throwable_class ≡ b → b ≡ false
       by false q = refl
-      by true q = apart (below-within (below-to p k throwable_class q) due.among) due.not_throwable
+      by true q = apart (round-above p known.library k due.round due.is_round (below-to p k throwable_class q)) due.not_throwable
 
   no-instance : has_instances p k ≡ true → ⊥
   no-instance e = either-way (is_guest k || same_class k object_class || same_class k token_class) (is_below p k throwable_class) e (λ q. apart q due.bare) (λ q. apart q not-thrown)

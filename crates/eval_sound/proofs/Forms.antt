@@ -38,7 +38,7 @@ use Rattle.eval_sound.specs.Laws.{MeaningsAreSafe}
 use Rattle.eval_sound.proofs.Parts.{bind_part, safe-values}
 use Rattle.eval_sound.proofs.Results.{real-by, real-agrees, real-reference, safe-result, whole}
 use Rattle.eval_sound.proofs.Steps.{safe-get_this, safe-get_local}
-use Rattle.eval_sound.proofs.Finals.{apart}
+use Rattle.library_fits.proofs.Table.{apart}
 use Rattle.eval_sound.proofs.Types.{agree-below, Known, fits-above}
 use Rattle.eval_sound.proofs.Updates.{safe-binary, safe-unary, safe-convert}
 use Rattle.eval_sound.proofs.Values.{reference-below, formed, truth-fits}

@@ -32,7 +32,7 @@ use Rattle.eval_sound.specs.Laws.{MeaningsAreSafe}
 use Rattle.eval_sound.proofs.Results.{whole}
 use Rattle.eval_sound.proofs.Steps.{IsOf, goes, safe-get_type}
 use Rattle.eval_sound.proofs.Texts.{string-units}
-use Rattle.eval_sound.proofs.Named.{method-named, method-there}
+use Rattle.library_fits.proofs.Named.{method-named, method-there}
 use Rattle.eval_sound.proofs.Types.{Known, object-up, string-itself}
 use Rattle.eval_sound.proofs.Values.{Formed, bool, byte, short, char, int, long, null, reference, formed}
 

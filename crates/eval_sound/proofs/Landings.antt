@@ -27,7 +27,7 @@ use Rattle.eval_sound.specs.Safety.{Any, Setting, Context, CanJump, break, break
 use Rattle.eval_sound.proofs.Growth.{grows-refl, grows-on}
 use Rattle.eval_sound.proofs.Moves.{any, fits-more, exits-more}
 use Rattle.eval_sound.proofs.Steps.{goes}
-use Rattle.eval_sound.proofs.Finals.{apart}
+use Rattle.library_fits.proofs.Table.{apart}
 use Rattle.eval_sound.proofs.Types.{Known, agree-itself}
 
 -- A jump comes to a statement, which is a loop if it goes on, or goes out.

@@ -19,7 +19,6 @@ pub mod Receivers
 pub mod Bodies
 pub mod News
 pub mod Finals
-pub mod Named
 pub mod Texts
 pub mod Joined
 pub mod Changes

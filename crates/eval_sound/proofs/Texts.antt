@@ -19,7 +19,8 @@ use Rattle.je_sound.specs.Objects.{throwable_class, token_class, const_row, int_
 use Rattle.je_sound.specs.Values.{ValueFits}
 use Rattle.je_sound.specs.Worlds.{Sound}
 use Rattle.library_classes.specs.Library.{all_due, class_due, rows}
-use Rattle.eval_sound.proofs.Finals.{FinalDue, apart, object-of}
+use Rattle.library_fits.proofs.Table.{apart}
+use Rattle.eval_sound.proofs.Finals.{FinalDue, object-of}
 use Rattle.eval_sound.proofs.Types.{Known}
 
 -- String is final, no interface, and below Object and Comparable alone
@@ -31,8 +32,7 @@ string-due number = record {
   final = refl;
   plain = refl;
   round = string_class ∷ object_class ∷ library_class (codes "java.lang.Comparable") ∷ [];
-  closed = refl;
-  among = refl;
+  is_round = record { closed = refl; among = refl };
   not_throwable = refl;
   not_object = refl;
   bare = refl;

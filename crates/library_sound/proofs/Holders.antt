@@ -26,7 +26,8 @@ use Rattle.je_sound.specs.Worlds.{Sound}
 use Rattle.je_sound.proofs.Worlds.{units_keep}
 use Rattle.library_classes.specs.Library.{all_due, class_due, rows}
 use Rattle.eval_sound.specs.Safety.{Any, Context, EndFits, Grows, Safe, Setting}
-use Rattle.eval_sound.proofs.Finals.{FinalDue, apart, object-of}
+use Rattle.library_fits.proofs.Table.{apart}
+use Rattle.eval_sound.proofs.Finals.{FinalDue, object-of}
 use Rattle.eval_sound.proofs.Growth.{grows-refl, grows-on, grows-united}
 use Rattle.eval_sound.proofs.Made.{bind_object, safe-deref}
 use Rattle.eval_sound.proofs.Moves.{any, fits-more, own-more, safe-bind}
@@ -44,8 +45,7 @@ builder-due number = record {
   final = refl;
   plain = refl;
   round = builder_class ∷ object_class ∷ [];
-  closed = refl;
-  among = refl;
+  is_round = record { closed = refl; among = refl };
   not_throwable = refl;
   not_object = refl;
   bare = refl;
@@ -59,8 +59,7 @@ const-row-due number = record {
   final = refl;
   plain = refl;
   round = const_row ∷ object_class ∷ library_class (codes "org.joe_e.Immutable") ∷ [];
-  closed = refl;
-  among = refl;
+  is_round = record { closed = refl; among = refl };
   not_throwable = refl;
   not_object = refl;
   bare = refl;
@@ -74,8 +73,7 @@ int-row-due number = record {
   final = refl;
   plain = refl;
   round = int_row ∷ object_class ∷ library_class (codes "org.joe_e.Powerless") ∷ library_class (codes "org.joe_e.Immutable") ∷ [];
-  closed = refl;
-  among = refl;
+  is_round = record { closed = refl; among = refl };
   not_throwable = refl;
   not_object = refl;
   bare = refl;
@@ -89,8 +87,7 @@ text-row-due number = record {
   final = refl;
   plain = refl;
   round = text_row ∷ object_class ∷ library_class (codes "org.joe_e.Powerless") ∷ library_class (codes "org.joe_e.Immutable") ∷ [];
-  closed = refl;
-  among = refl;
+  is_round = record { closed = refl; among = refl };
   not_throwable = refl;
   not_object = refl;
   bare = refl;

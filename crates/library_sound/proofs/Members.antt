@@ -26,9 +26,9 @@ use Rattle.library_places.specs.Places.{library_place}
 use Rattle.eval_sound.specs.Premises.{IsOfLibrary, MakerIsSafe, MemberIsSafe}
 use Rattle.eval_sound.specs.Safety.{Any, Safe, Setting}
 use Rattle.eval_sound.proofs.Evaluation.{known}
-use Rattle.eval_sound.proofs.Finals.{apart}
+use Rattle.library_fits.proofs.Table.{apart}
 use Rattle.eval_sound.proofs.Moves.{any, fits-more, safe-ret}
-use Rattle.eval_sound.proofs.Named.{constructor-named, method-named}
+use Rattle.library_fits.proofs.Named.{constructor-named, method-named}
 use Rattle.eval_sound.proofs.Types.{Known, fits-above}
 use Rattle.library_sound.specs.Laws.{IsTame, MakersAreSafe, MembersAreSafe}
 use Rattle.library_sound.proofs.Arguments.{given-at, pay-plain}

@@ -22,7 +22,8 @@ use Rattle.je_sound.specs.Values.{ValueFits}
 use Rattle.je_sound.proofs.Library.{there-too}
 use Rattle.eval_sound.specs.Safety.{Context, Fitting, Grows, HasShape, Safe, Setting}
 use Rattle.eval_sound.proofs.Arrays.{all-of-more, alike-at, safe-place_of}
-use Rattle.eval_sound.proofs.Finals.{FinalDue, apart, object-of}
+use Rattle.library_fits.proofs.Table.{apart}
+use Rattle.eval_sound.proofs.Finals.{FinalDue, object-of}
 use Rattle.eval_sound.proofs.Growth.{grows-on}
 use Rattle.eval_sound.proofs.Made.{bind_object, bind_value, safe-deref}
 use Rattle.eval_sound.proofs.Moves.{fits-more, safe-bind, safe-ret, safe-seq}

@@ -13,7 +13,7 @@ use Rattle.je_java.specs.LibraryMembers.{has_own_makers}
 use Rattle.library_classes.specs.Library.{LibraryStands, all_due, rows}
 use Rattle.library_places.specs.Places.{library_place}
 use Rattle.eval_sound.specs.Premises.{IsOfLibrary}
-use Rattle.eval_sound.proofs.Named.{constructor-named, method-there}
+use Rattle.library_fits.proofs.Named.{constructor-named, method-there}
 use Rattle.library_sound.specs.Laws.{IsTame}
 use Rattle.library_sound.proofs.Members.{wild-or-tame}
 
