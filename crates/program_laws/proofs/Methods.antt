@@ -1,5 +1,5 @@
 -- The methods of the classes of a source fit.
-use Rattle.std.proofs.Common.{◌≡◌, ℕ, ◌≤◌, List, [], ◌∷◌, Option, Some, None, refl, sym, ap, ◌∙◌, subst, arith}
+use Rattle.std.proofs.Common.{◌≡◌, ◌<◌, ℕ, ◌≤◌, List, [], ◌∷◌, Option, Some, None, refl, sym, ap, ◌∙◌, subst, arith}
 use Rattle.std.specs.Prelude.{Bool, true, false, not, ◌&&◌, ◌||◌, is_some, option_map, slice_get, nat_eq}
 use Rattle.std.specs.List.{Contains}
 use Rattle.std.proofs.lemmas.Bool.Decides.{nat_tests}
@@ -79,6 +79,9 @@ no-body false n e h = absurd cc
 
 guest-numbered : (source : Source) (c : ℕ) → library_count source ≤ c → is_guest (class_numbered c) ≡ true
 guest-numbered source c le = let many : library_count source ≡ 39 = library-many source in grind (arith, nat_tests, many)
+
+pub library-numbered : (source : Source) (id : ClassId) → id.0 < library_count source → is_guest id ≡ false
+library-numbered source id l = let many : library_count source ≡ 39 = library-many source in grind (arith, nat_tests, many)
 
 module _ (source : Source) (program : CoreProgram) (e : IsElaborated source program) (sound : SourceIsSound source program e)
     (c : ℕ) (class : CoreClass) (le : library_count source ≤ c) (there : class_at program (class_numbered c) ≡ Some class) where

@@ -11,7 +11,7 @@ use Rattle.source_types.specs.Erasure.{class_numbered}
 use Rattle.class_typing.specs.Programs.{library_count}
 use Rattle.elaborated_laws.specs.Elaborated.{IsElaborated}
 use Rattle.program_laws.specs.Parts.{ClassCodeFits}
-use Rattle.program_laws.specs.Premises.{BodiesStand, ClassesStand, ImplementationsAgree, LibraryFits, PartsStand}
+use Rattle.program_laws.specs.Premises.{BodiesStand, ClassesStand, ImplementationsAgree, PartsStand}
 use Rattle.program_laws.specs.Premises.{SourceIsSound, declared, named_first}
 
 module _ (source : Source) (program : CoreProgram) (e : IsElaborated source program) where
@@ -55,5 +55,4 @@ module _ (source : Source) (program : CoreProgram) (e : IsElaborated source prog
 
   -- the whole program
   abbrev pub ProgramFits : Type 0
-  ProgramFits = SourceIsSound source program e → LibraryFits source program e →
-      ClassesStand source program e → FitsProgram program
+  ProgramFits = SourceIsSound source program e → ClassesStand source program e → FitsProgram program

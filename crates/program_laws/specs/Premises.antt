@@ -10,7 +10,6 @@ use Rattle.je_classes.specs.Members.{In}
 use Rattle.je_fitting.specs.Classes.{Implements, InheritedFit}
 use Rattle.je_fitting.specs.Expressions.{can_be_made, is_constructor}
 use Rattle.je_fitting.specs.Members.{AreVariables, ConstantFits, local_types, results_agree}
-use Rattle.je_fitting.specs.Program.{FitsWhole}
 use Rattle.je_scopes.specs.Headers.{members_in, site_at}
 use Rattle.je_scopes.specs.Looks.{a_class}
 use Rattle.je_scopes.specs.Sites.{Context}
@@ -64,11 +63,6 @@ module _ (source : Source) (program : CoreProgram) (e : IsElaborated source prog
     pub interfaces : InterfacesAreStatic source
     pub types : TypesAreSound declared program
     pub methods : MethodsAreSound declared program
-
-  -- the classes of the library fit
-  abbrev pub LibraryFits : Type 0
-  LibraryFits = (c : ℕ) (class : CoreClass) → c < library_count source →
-      class_at program (class_numbered c) ≡ Some class → FitsWhole program (class_numbered c) class
 
   -- ---- of a class of the source
 

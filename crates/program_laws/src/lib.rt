@@ -2,11 +2,11 @@
 //! (`specs/Laws.antt`).
 //!
 //! What the laws ask beside that has a record each (`specs/Premises.antt`), which is to be met where an elaboration cites
-//! the laws. `SourceIsSound` puts together the premises of `elaborated_laws` and `judged_laws`. `LibraryFits`
-//! is of the table of the library alone (`library_classes`). Of `BodiesStand`, scopes give `scope` (`scope_laws`), and the
-//! walk over bodies gives what is met in them (`body_typing`). Of `PartsStand`, headers and signatures give what it asks of
-//! headers, constants and methods (`signature_typing`, `override_laws`), and the walk over bodies the types of locals.
-//! `ImplementationsAgree` asks of bridges to inherited methods what headers without fault don't say of every class.
+//! the laws. `SourceIsSound` puts together the premises of `elaborated_laws` and `judged_laws`. Of `BodiesStand`,
+//! scopes give `scope` (`scope_laws`), and the walk over bodies gives what is met in them (`body_typing`). Of `PartsStand`,
+//! headers and signatures give what it asks of headers, constants and methods (`signature_typing`, `override_laws`), and the
+//! walk over bodies the types of locals. `ImplementationsAgree` asks of bridges to inherited methods what headers without
+//! fault don't say of every class. That the classes of the library fit is proved (`library_fits`).
 //!
 //! The crate has no code: each function states a law of `class_typing`.
 #![tactic(auto)]
@@ -16,6 +16,8 @@ ghost use Rattle.je_scopes.specs.Source.{Source};
 ghost use Rattle.elaborated_laws.specs.Elaborated.{IsElaborated};
 ghost use Rattle.program_laws.specs.Laws.{BridgesFit, ClassesFit, CodeFits, FieldsFit, InitializersFit, MethodsFit};
 ghost use Rattle.program_laws.specs.Laws.{ProgramFits};
+
+use library_fits::library_fits;
 
 /// The code of a class of the source fits: its initializers, and the bodies of its methods and constructors
 /// (JLS 8.3.2, 8.4, 8.6, 8.7, 8.8).
@@ -58,4 +60,6 @@ pub fn classes_fit()
 pub fn programs_fit()
     ensures { (source : Source) (program : CoreProgram) (e : IsElaborated source program) →
         ProgramFits source program e }
-{}
+{
+    library_fits();
+}
