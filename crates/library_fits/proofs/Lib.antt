@@ -1,8 +1,8 @@
 pub mod Table
 pub mod Rounds
 pub mod Named
-mod Tests
-mod Members
+pub mod Tests
+pub mod Members
 mod Inherited
 mod Classes
 mod Fits

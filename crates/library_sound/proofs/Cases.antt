@@ -33,14 +33,20 @@ library_number n = record { 0 = n }
 abbrev pub is_tame_in : Option table.Member → Bool
 is_tame_in row = unwrap_or (option_map (λ (m : table.Member). m.tame) row) false
 
+-- a word of the library that names a method, and not its constructors
+pub record IsMethodWord (number : List ℕ → NameId) (m : CoreMethod) (word : List ℕ) : Type 0 where
+  pub name : m.name ≡ number word
+  pub there : list_any (bytes_eq word) library_words ≡ true
+  pub other : bytes_eq (codes "new") word ≡ false
+
 -- what a member is, under names with these numbers
 pub data Case (S : Setting) (number : List ℕ → NameId) (k : ClassId) (at : ℕ) (m : CoreMethod) : Type 0 where
   -- of a class whose constructors are handed their object
-  member : has_own_makers k ≡ false → MemberIsSafe S k at m → Case S number k at m
+  member : is_tame_in (member_row k at) ≡ true → has_own_makers k ≡ false → MemberIsSafe S k at m → Case S number k at m
   -- a method of a class whose constructors make it
-  method : (word : List ℕ) → m.name ≡ number word → list_any (bytes_eq word) library_words ≡ true → bytes_eq (codes "new") word ≡ false → MemberIsSafe S k at m → Case S number k at m
-  maker : has_own_makers k ≡ true → m.name ≡ number (codes "new") → MakerIsSafe S k at m → Case S number k at m
-  wild : is_tame_in (member_row k at) ≡ false → Case S number k at m
+  method : is_tame_in (member_row k at) ≡ true → (word : List ℕ) → IsMethodWord number m word → MemberIsSafe S k at m → Case S number k at m
+  maker : is_tame_in (member_row k at) ≡ true → has_own_makers k ≡ true → m.name ≡ number (codes "new") → MakerIsSafe S k at m → Case S number k at m
+  wild : is_tame_in (member_row k at) ≡ false → (word : List ℕ) → IsMethodWord number m word → Case S number k at m
   abstract : m.flags.is_abstract ≡ true → Case S number k at m
 
 -- ---- of each method, and of each class, by their places

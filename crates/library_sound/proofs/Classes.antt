@@ -54,108 +54,108 @@ text-row-class = record { rows = refl; no_text = refl; no_builder = refl; no_dev
 
 module _ (S : Setting) (fit : Known S.program) where
   pub of-object : Members S fit.library.number 0 class.Object
-  unfolding library_place library_class rows object_class object_member has_own_makers
+  unfolding library_place library_class rows object_class object_member has_own_makers library_words class_words member_words further_words
   of-object =
-      member refl (runs fit _ _ _ _ refl λ c w this given f h. paid fit (pay-plain fit this given) h λ l g a. safe-identity fit (fits-more g (f refl)) (given-at 0 a refl)) ⋄
-      wild refl ⋄
-      member refl (runs fit _ _ _ _ refl λ c w this given f h. paid-void fit (pay-plain fit this given) h λ l g a. safe-ret _ any) ⋄
-      wild refl ⋄
+      member refl refl (runs fit _ _ _ _ refl λ c w this given f h. paid fit (pay-plain fit this given) h λ l g a. safe-identity fit (fits-more g (f refl)) (given-at 0 a refl)) ⋄
+      wild refl (codes "hashCode") (record { name = refl; there = refl; other = refl }) ⋄
+      member refl refl (runs fit _ _ _ _ refl λ c w this given f h. paid-void fit (pay-plain fit this given) h λ l g a. safe-ret _ any) ⋄
+      wild refl (codes "toString") (record { name = refl; there = refl; other = refl }) ⋄
       none
 
   pub of-string : Members S fit.library.number 1 class.String
   unfolding library_place library_class rows string_class object_class string_member library_words class_words member_words further_words has_own_makers
   of-string =
-      method (codes "charAt") refl refl refl (runs fit _ _ _ _ refl λ c w this given f h. received fit (pay-plain fit this given) (string-holds fit) (f refl) h λ l o u units a. safe-char_at fit units (given-at 0 a refl)) ⋄
-      method (codes "compareTo") refl refl refl (runs fit _ _ _ _ refl λ c w this given f h. received fit (pay-receiver fit given (string-holds fit) (f refl)) (string-holds fit) (f refl) h λ l o u units a. safe-comparison fit units (given-at 0 a refl)) ⋄
-      method (codes "concat") refl refl refl (runs fit _ _ _ _ refl λ c w this given f h. received fit (pay-result fit this given) (string-holds fit) (f refl) h λ l o u units a. safe-joined fit units (given-at 0 a refl)) ⋄
-      method (codes "endsWith") refl refl refl (runs fit _ _ _ _ refl λ c w this given f h. received fit (pay-receiver fit given (string-holds fit) (f refl)) (string-holds fit) (f refl) h λ l o u units a. safe-tested_by fit is_suffix units (given-at 0 a refl)) ⋄
-      method (codes "equals") refl refl refl (runs fit _ _ _ _ refl λ c w this given f h. received fit (pay-receiver fit given (string-holds fit) (f refl)) (string-holds fit) (f refl) h λ l o u units a. safe-equality fit units (given-at 0 a refl)) ⋄
-      method (codes "hashCode") refl refl refl (runs fit _ _ _ _ refl λ c w this given f h. received fit (pay-receiver fit given (string-holds fit) (f refl)) (string-holds fit) (f refl) h λ l o u units a. safe-ret _ (int-fits S.program l _)) ⋄
-      method (codes "indexOf") refl refl refl (runs fit _ _ _ _ refl λ c w this given f h. received fit (pay-product fit (string-holds fit) (f refl) (given-at 0 h refl)) (string-holds fit) (f refl) h λ l o u units a. safe-place_of_text fit units (given-at 0 a refl)) ⋄
-      method (codes "indexOf") refl refl refl (runs fit _ _ _ _ refl λ c w this given f h. received fit (pay-receiver fit given (string-holds fit) (f refl)) (string-holds fit) (f refl) h λ l o u units a. safe-place_of_unit fit units (given-at 0 a refl)) ⋄
-      method (codes "length") refl refl refl (runs fit _ _ _ _ refl λ c w this given f h. received fit (pay-plain fit this given) (string-holds fit) (f refl) h λ l o u units a. safe-ret _ (int-fits S.program l _)) ⋄
-      maker refl refl (makes fit _ _ _ _ refl λ c w given h. safe-seq (pay-result fit Null given) λ l g. safe-text_of_chars fit (given-at 0 (all-more g h) refl)) ⋄
-      method (codes "replace") refl refl refl (runs fit _ _ _ _ refl λ c w this given f h. received fit (pay-result fit this given) (string-holds fit) (f refl) h λ l o u units a. safe-replacement fit units (given-at 0 a refl) (given-at 1 a refl)) ⋄
-      method (codes "startsWith") refl refl refl (runs fit _ _ _ _ refl λ c w this given f h. received fit (pay-receiver fit given (string-holds fit) (f refl)) (string-holds fit) (f refl) h λ l o u units a. safe-tested_by fit is_prefix units (given-at 0 a refl)) ⋄
-      method (codes "substring") refl refl refl (runs fit _ _ _ _ refl λ c w this given f h. received fit (pay-result fit this given) (string-holds fit) (f refl) h λ l o u units a. safe-part_from fit units (given-at 0 a refl)) ⋄
-      method (codes "substring") refl refl refl (runs fit _ _ _ _ refl λ c w this given f h. received fit (pay-result fit this given) (string-holds fit) (f refl) h λ l o u units a. safe-part_between fit units (given-at 0 a refl) (given-at 1 a refl)) ⋄
-      method (codes "toCharArray") refl refl refl (runs fit _ _ _ _ refl λ c w this given f h. received fit (pay-result fit this given) (string-holds fit) (f refl) h λ l o u units a. safe-chars fit units) ⋄
-      method (codes "toString") refl refl refl (runs fit _ _ _ _ refl λ c w this given f h. received fit (pay-plain fit this given) (string-holds fit) (f refl) h λ l o u units a. safe-ret _ u) ⋄
-      method (codes "trim") refl refl refl (runs fit _ _ _ _ refl λ c w this given f h. received fit (pay-result fit this given) (string-holds fit) (f refl) h λ l o u units a. safe-new_text fit _) ⋄
-      method (codes "valueOf") refl refl refl (runs fit _ _ _ _ refl λ c w this given f h. paid fit (pay-result fit this given) h λ l g a. safe-text_of_truth fit (given-at 0 a refl)) ⋄
-      method (codes "valueOf") refl refl refl (runs fit _ _ _ _ refl λ c w this given f h. paid fit (pay-result fit this given) h λ l g a. safe-text_of_char fit (given-at 0 a refl)) ⋄
-      method (codes "valueOf") refl refl refl (runs fit _ _ _ _ refl λ c w this given f h. paid fit (pay-result fit this given) h λ l g a. safe-text_of_int fit (given-at 0 a refl)) ⋄
-      method (codes "valueOf") refl refl refl (runs fit _ _ _ _ refl λ c w this given f h. paid fit (pay-result fit this given) h λ l g a. safe-text_of_long fit (given-at 0 a refl)) ⋄
+      method refl (codes "charAt") (record { name = refl; there = refl; other = refl }) (runs fit _ _ _ _ refl λ c w this given f h. received fit (pay-plain fit this given) (string-holds fit) (f refl) h λ l o u units a. safe-char_at fit units (given-at 0 a refl)) ⋄
+      method refl (codes "compareTo") (record { name = refl; there = refl; other = refl }) (runs fit _ _ _ _ refl λ c w this given f h. received fit (pay-receiver fit given (string-holds fit) (f refl)) (string-holds fit) (f refl) h λ l o u units a. safe-comparison fit units (given-at 0 a refl)) ⋄
+      method refl (codes "concat") (record { name = refl; there = refl; other = refl }) (runs fit _ _ _ _ refl λ c w this given f h. received fit (pay-result fit this given) (string-holds fit) (f refl) h λ l o u units a. safe-joined fit units (given-at 0 a refl)) ⋄
+      method refl (codes "endsWith") (record { name = refl; there = refl; other = refl }) (runs fit _ _ _ _ refl λ c w this given f h. received fit (pay-receiver fit given (string-holds fit) (f refl)) (string-holds fit) (f refl) h λ l o u units a. safe-tested_by fit is_suffix units (given-at 0 a refl)) ⋄
+      method refl (codes "equals") (record { name = refl; there = refl; other = refl }) (runs fit _ _ _ _ refl λ c w this given f h. received fit (pay-receiver fit given (string-holds fit) (f refl)) (string-holds fit) (f refl) h λ l o u units a. safe-equality fit units (given-at 0 a refl)) ⋄
+      method refl (codes "hashCode") (record { name = refl; there = refl; other = refl }) (runs fit _ _ _ _ refl λ c w this given f h. received fit (pay-receiver fit given (string-holds fit) (f refl)) (string-holds fit) (f refl) h λ l o u units a. safe-ret _ (int-fits S.program l _)) ⋄
+      method refl (codes "indexOf") (record { name = refl; there = refl; other = refl }) (runs fit _ _ _ _ refl λ c w this given f h. received fit (pay-product fit (string-holds fit) (f refl) (given-at 0 h refl)) (string-holds fit) (f refl) h λ l o u units a. safe-place_of_text fit units (given-at 0 a refl)) ⋄
+      method refl (codes "indexOf") (record { name = refl; there = refl; other = refl }) (runs fit _ _ _ _ refl λ c w this given f h. received fit (pay-receiver fit given (string-holds fit) (f refl)) (string-holds fit) (f refl) h λ l o u units a. safe-place_of_unit fit units (given-at 0 a refl)) ⋄
+      method refl (codes "length") (record { name = refl; there = refl; other = refl }) (runs fit _ _ _ _ refl λ c w this given f h. received fit (pay-plain fit this given) (string-holds fit) (f refl) h λ l o u units a. safe-ret _ (int-fits S.program l _)) ⋄
+      maker refl refl refl (makes fit _ _ _ _ refl λ c w given h. safe-seq (pay-result fit Null given) λ l g. safe-text_of_chars fit (given-at 0 (all-more g h) refl)) ⋄
+      method refl (codes "replace") (record { name = refl; there = refl; other = refl }) (runs fit _ _ _ _ refl λ c w this given f h. received fit (pay-result fit this given) (string-holds fit) (f refl) h λ l o u units a. safe-replacement fit units (given-at 0 a refl) (given-at 1 a refl)) ⋄
+      method refl (codes "startsWith") (record { name = refl; there = refl; other = refl }) (runs fit _ _ _ _ refl λ c w this given f h. received fit (pay-receiver fit given (string-holds fit) (f refl)) (string-holds fit) (f refl) h λ l o u units a. safe-tested_by fit is_prefix units (given-at 0 a refl)) ⋄
+      method refl (codes "substring") (record { name = refl; there = refl; other = refl }) (runs fit _ _ _ _ refl λ c w this given f h. received fit (pay-result fit this given) (string-holds fit) (f refl) h λ l o u units a. safe-part_from fit units (given-at 0 a refl)) ⋄
+      method refl (codes "substring") (record { name = refl; there = refl; other = refl }) (runs fit _ _ _ _ refl λ c w this given f h. received fit (pay-result fit this given) (string-holds fit) (f refl) h λ l o u units a. safe-part_between fit units (given-at 0 a refl) (given-at 1 a refl)) ⋄
+      method refl (codes "toCharArray") (record { name = refl; there = refl; other = refl }) (runs fit _ _ _ _ refl λ c w this given f h. received fit (pay-result fit this given) (string-holds fit) (f refl) h λ l o u units a. safe-chars fit units) ⋄
+      method refl (codes "toString") (record { name = refl; there = refl; other = refl }) (runs fit _ _ _ _ refl λ c w this given f h. received fit (pay-plain fit this given) (string-holds fit) (f refl) h λ l o u units a. safe-ret _ u) ⋄
+      method refl (codes "trim") (record { name = refl; there = refl; other = refl }) (runs fit _ _ _ _ refl λ c w this given f h. received fit (pay-result fit this given) (string-holds fit) (f refl) h λ l o u units a. safe-new_text fit _) ⋄
+      method refl (codes "valueOf") (record { name = refl; there = refl; other = refl }) (runs fit _ _ _ _ refl λ c w this given f h. paid fit (pay-result fit this given) h λ l g a. safe-text_of_truth fit (given-at 0 a refl)) ⋄
+      method refl (codes "valueOf") (record { name = refl; there = refl; other = refl }) (runs fit _ _ _ _ refl λ c w this given f h. paid fit (pay-result fit this given) h λ l g a. safe-text_of_char fit (given-at 0 a refl)) ⋄
+      method refl (codes "valueOf") (record { name = refl; there = refl; other = refl }) (runs fit _ _ _ _ refl λ c w this given f h. paid fit (pay-result fit this given) h λ l g a. safe-text_of_int fit (given-at 0 a refl)) ⋄
+      method refl (codes "valueOf") (record { name = refl; there = refl; other = refl }) (runs fit _ _ _ _ refl λ c w this given f h. paid fit (pay-result fit this given) h λ l g a. safe-text_of_long fit (given-at 0 a refl)) ⋄
       none
 
   pub of-builder : Members S fit.library.number 2 class.StringBuilder
   unfolding library_place library_class rows string_class builder_class builder_member library_words class_words member_words further_words has_own_makers
   of-builder =
-      method (codes "append") refl refl refl (runs fit _ _ _ _ refl λ c w this given f h. received fit (pay-result fit this given) (builder-holds fit) (f refl) h λ l o u units a. safe-append_text fit units u (given-at 0 a refl)) ⋄
-      method (codes "append") refl refl refl (runs fit _ _ _ _ refl λ c w this given f h. received fit (pay-result fit this given) (builder-holds fit) (f refl) h λ l o u units a. safe-append_truth fit units u (given-at 0 a refl)) ⋄
-      method (codes "append") refl refl refl (runs fit _ _ _ _ refl λ c w this given f h. received fit (pay-result fit this given) (builder-holds fit) (f refl) h λ l o u units a. safe-append_char fit units u (given-at 0 a refl)) ⋄
-      method (codes "append") refl refl refl (runs fit _ _ _ _ refl λ c w this given f h. received fit (pay-result fit this given) (builder-holds fit) (f refl) h λ l o u units a. safe-append_int fit units u (given-at 0 a refl)) ⋄
-      method (codes "append") refl refl refl (runs fit _ _ _ _ refl λ c w this given f h. received fit (pay-result fit this given) (builder-holds fit) (f refl) h λ l o u units a. safe-append_long fit units u (given-at 0 a refl)) ⋄
-      method (codes "charAt") refl refl refl (runs fit _ _ _ _ refl λ c w this given f h. received fit (pay-plain fit this given) (builder-holds fit) (f refl) h λ l o u units a. safe-char_at fit units (given-at 0 a refl)) ⋄
-      method (codes "deleteCharAt") refl refl refl (runs fit _ _ _ _ refl λ c w this given f h. received fit (pay-receiver fit given (builder-holds fit) (f refl)) (builder-holds fit) (f refl) h λ l o u units a. safe-delete_char_at fit units u (given-at 0 a refl)) ⋄
-      method (codes "length") refl refl refl (runs fit _ _ _ _ refl λ c w this given f h. received fit (pay-plain fit this given) (builder-holds fit) (f refl) h λ l o u units a. safe-ret _ (int-fits S.program l _)) ⋄
-      maker refl refl (makes fit _ _ _ _ refl λ c w given h. safe-seq (pay-plain fit Null given) λ l g. safe-new_builder fit []) ⋄
-      maker refl refl (makes fit _ _ _ _ refl λ c w given h. safe-seq (pay-result fit Null given) λ l g. safe-builder_of_text fit (given-at 0 (all-more g h) refl)) ⋄
-      method (codes "setCharAt") refl refl refl (runs fit _ _ _ _ refl λ c w this given f h. received-void fit (pay-receiver fit given (builder-holds fit) (f refl)) (builder-holds fit) (f refl) h λ l o u units a. safe-set_char_at fit units u (given-at 0 a refl) (given-at 1 a refl)) ⋄
-      method (codes "toString") refl refl refl (runs fit _ _ _ _ refl λ c w this given f h. received fit (pay-result fit this given) (builder-holds fit) (f refl) h λ l o u units a. safe-new_text fit units) ⋄
+      method refl (codes "append") (record { name = refl; there = refl; other = refl }) (runs fit _ _ _ _ refl λ c w this given f h. received fit (pay-result fit this given) (builder-holds fit) (f refl) h λ l o u units a. safe-append_text fit units u (given-at 0 a refl)) ⋄
+      method refl (codes "append") (record { name = refl; there = refl; other = refl }) (runs fit _ _ _ _ refl λ c w this given f h. received fit (pay-result fit this given) (builder-holds fit) (f refl) h λ l o u units a. safe-append_truth fit units u (given-at 0 a refl)) ⋄
+      method refl (codes "append") (record { name = refl; there = refl; other = refl }) (runs fit _ _ _ _ refl λ c w this given f h. received fit (pay-result fit this given) (builder-holds fit) (f refl) h λ l o u units a. safe-append_char fit units u (given-at 0 a refl)) ⋄
+      method refl (codes "append") (record { name = refl; there = refl; other = refl }) (runs fit _ _ _ _ refl λ c w this given f h. received fit (pay-result fit this given) (builder-holds fit) (f refl) h λ l o u units a. safe-append_int fit units u (given-at 0 a refl)) ⋄
+      method refl (codes "append") (record { name = refl; there = refl; other = refl }) (runs fit _ _ _ _ refl λ c w this given f h. received fit (pay-result fit this given) (builder-holds fit) (f refl) h λ l o u units a. safe-append_long fit units u (given-at 0 a refl)) ⋄
+      method refl (codes "charAt") (record { name = refl; there = refl; other = refl }) (runs fit _ _ _ _ refl λ c w this given f h. received fit (pay-plain fit this given) (builder-holds fit) (f refl) h λ l o u units a. safe-char_at fit units (given-at 0 a refl)) ⋄
+      method refl (codes "deleteCharAt") (record { name = refl; there = refl; other = refl }) (runs fit _ _ _ _ refl λ c w this given f h. received fit (pay-receiver fit given (builder-holds fit) (f refl)) (builder-holds fit) (f refl) h λ l o u units a. safe-delete_char_at fit units u (given-at 0 a refl)) ⋄
+      method refl (codes "length") (record { name = refl; there = refl; other = refl }) (runs fit _ _ _ _ refl λ c w this given f h. received fit (pay-plain fit this given) (builder-holds fit) (f refl) h λ l o u units a. safe-ret _ (int-fits S.program l _)) ⋄
+      maker refl refl refl (makes fit _ _ _ _ refl λ c w given h. safe-seq (pay-plain fit Null given) λ l g. safe-new_builder fit []) ⋄
+      maker refl refl refl (makes fit _ _ _ _ refl λ c w given h. safe-seq (pay-result fit Null given) λ l g. safe-builder_of_text fit (given-at 0 (all-more g h) refl)) ⋄
+      method refl (codes "setCharAt") (record { name = refl; there = refl; other = refl }) (runs fit _ _ _ _ refl λ c w this given f h. received-void fit (pay-receiver fit given (builder-holds fit) (f refl)) (builder-holds fit) (f refl) h λ l o u units a. safe-set_char_at fit units u (given-at 0 a refl) (given-at 1 a refl)) ⋄
+      method refl (codes "toString") (record { name = refl; there = refl; other = refl }) (runs fit _ _ _ _ refl λ c w this given f h. received fit (pay-result fit this given) (builder-holds fit) (f refl) h λ l o u units a. safe-new_text fit units) ⋄
       none
 
   pub of-integer : Members S fit.library.number 3 class.Integer
   unfolding library_place library_class rows string_class integer_member has_own_makers
   of-integer =
-      member refl (runs fit _ _ _ _ refl λ c w this given f h. paid fit (pay-plain fit this given) h λ l g a. safe-of_int fit bit_count (given-at 0 a refl)) ⋄
-      member refl (runs fit _ _ _ _ refl λ c w this given f h. paid fit (pay-plain fit this given) h λ l g a. safe-parse_int fit (given-at 0 a refl)) ⋄
-      member refl (runs fit _ _ _ _ refl λ c w this given f h. paid fit (pay-result fit this given) h λ l g a. safe-hex fit (given-at 0 a refl)) ⋄
-      member refl (runs fit _ _ _ _ refl λ c w this given f h. paid fit (pay-result fit this given) h λ l g a. safe-text_of_int fit (given-at 0 a refl)) ⋄
+      member refl refl (runs fit _ _ _ _ refl λ c w this given f h. paid fit (pay-plain fit this given) h λ l g a. safe-of_int fit bit_count (given-at 0 a refl)) ⋄
+      member refl refl (runs fit _ _ _ _ refl λ c w this given f h. paid fit (pay-plain fit this given) h λ l g a. safe-parse_int fit (given-at 0 a refl)) ⋄
+      member refl refl (runs fit _ _ _ _ refl λ c w this given f h. paid fit (pay-result fit this given) h λ l g a. safe-hex fit (given-at 0 a refl)) ⋄
+      member refl refl (runs fit _ _ _ _ refl λ c w this given f h. paid fit (pay-result fit this given) h λ l g a. safe-text_of_int fit (given-at 0 a refl)) ⋄
       none
 
   pub of-long : Members S fit.library.number 4 class.Long
   unfolding library_place library_class rows string_class long_member has_own_makers
   of-long =
-      member refl (runs fit _ _ _ _ refl λ c w this given f h. paid fit (pay-plain fit this given) h λ l g a. safe-parse_long fit (given-at 0 a refl)) ⋄
-      member refl (runs fit _ _ _ _ refl λ c w this given f h. paid fit (pay-result fit this given) h λ l g a. safe-text_of_long fit (given-at 0 a refl)) ⋄
+      member refl refl (runs fit _ _ _ _ refl λ c w this given f h. paid fit (pay-plain fit this given) h λ l g a. safe-parse_long fit (given-at 0 a refl)) ⋄
+      member refl refl (runs fit _ _ _ _ refl λ c w this given f h. paid fit (pay-result fit this given) h λ l g a. safe-text_of_long fit (given-at 0 a refl)) ⋄
       none
 
   pub of-math : Members S fit.library.number 5 class.Math
   unfolding library_place library_class rows math_member has_own_makers
   of-math =
-      member refl (runs fit _ _ _ _ refl λ c w this given f h. paid fit (pay-plain fit this given) h λ l g a. safe-of_int fit (absolute w32) (given-at 0 a refl)) ⋄
-      member refl (runs fit _ _ _ _ refl λ c w this given f h. paid fit (pay-plain fit this given) h λ l g a. safe-of_long fit (absolute w64) (given-at 0 a refl)) ⋄
-      member refl (runs fit _ _ _ _ refl λ c w this given f h. paid fit (pay-plain fit this given) h λ l g a. safe-of_ints fit greater (given-at 0 a refl) (given-at 1 a refl)) ⋄
-      member refl (runs fit _ _ _ _ refl λ c w this given f h. paid fit (pay-plain fit this given) h λ l g a. safe-of_longs fit greater (given-at 0 a refl) (given-at 1 a refl)) ⋄
-      member refl (runs fit _ _ _ _ refl λ c w this given f h. paid fit (pay-plain fit this given) h λ l g a. safe-of_ints fit less (given-at 0 a refl) (given-at 1 a refl)) ⋄
-      member refl (runs fit _ _ _ _ refl λ c w this given f h. paid fit (pay-plain fit this given) h λ l g a. safe-of_longs fit less (given-at 0 a refl) (given-at 1 a refl)) ⋄
+      member refl refl (runs fit _ _ _ _ refl λ c w this given f h. paid fit (pay-plain fit this given) h λ l g a. safe-of_int fit (absolute w32) (given-at 0 a refl)) ⋄
+      member refl refl (runs fit _ _ _ _ refl λ c w this given f h. paid fit (pay-plain fit this given) h λ l g a. safe-of_long fit (absolute w64) (given-at 0 a refl)) ⋄
+      member refl refl (runs fit _ _ _ _ refl λ c w this given f h. paid fit (pay-plain fit this given) h λ l g a. safe-of_ints fit greater (given-at 0 a refl) (given-at 1 a refl)) ⋄
+      member refl refl (runs fit _ _ _ _ refl λ c w this given f h. paid fit (pay-plain fit this given) h λ l g a. safe-of_longs fit greater (given-at 0 a refl) (given-at 1 a refl)) ⋄
+      member refl refl (runs fit _ _ _ _ refl λ c w this given f h. paid fit (pay-plain fit this given) h λ l g a. safe-of_ints fit less (given-at 0 a refl) (given-at 1 a refl)) ⋄
+      member refl refl (runs fit _ _ _ _ refl λ c w this given f h. paid fit (pay-plain fit this given) h λ l g a. safe-of_longs fit less (given-at 0 a refl) (given-at 1 a refl)) ⋄
       none
 
   pub of-token : Members S fit.library.number 14 class.Token
   unfolding library_place library_class rows object_member has_own_makers
-  of-token = member refl (runs fit _ _ _ _ refl λ c w this given f h. paid-void fit (pay-plain fit this given) h λ l g a. safe-ret _ any) ⋄ none
+  of-token = member refl refl (runs fit _ _ _ _ refl λ c w this given f h. paid-void fit (pay-plain fit this given) h λ l g a. safe-ret _ any) ⋄ none
 
   pub of-const-row : Members S fit.library.number 15 class.ConstRow
   unfolding library_place library_class rows string_class const_row int_row text_row immutable_class row_member library_words class_words member_words further_words has_own_makers
   of-const-row =
-      method (codes "get") refl refl refl (runs fit _ _ _ _ refl λ c w this given f h. safe-seq (pay-plain fit this given) λ l g. safe-result (receive-row fit const_row (const-row-due fit.library.number) const-row-class (fits-more g (f refl)) λ last g1 o count r. safe-value_at fit const_row (const-row-due fit.library.number) const-row-class r (given-at 0 (all-more (grows-on g g1) h) refl))) ⋄
-      maker refl refl (makes fit _ _ _ _ refl λ c w given h. safe-seq (pay-result fit Null given) λ l g. safe-new_row fit const_row (const-row-due fit.library.number) const-row-class (given-at 0 (all-more g h) refl)) ⋄
-      method (codes "size") refl refl refl (runs fit _ _ _ _ refl λ c w this given f h. safe-seq (pay-plain fit this given) λ l g. safe-result (receive-row fit const_row (const-row-due fit.library.number) const-row-class (fits-more g (f refl)) λ last g1 o count r. safe-ret _ (int-fits S.program last _))) ⋄
+      method refl (codes "get") (record { name = refl; there = refl; other = refl }) (runs fit _ _ _ _ refl λ c w this given f h. safe-seq (pay-plain fit this given) λ l g. safe-result (receive-row fit const_row (const-row-due fit.library.number) const-row-class (fits-more g (f refl)) λ last g1 o count r. safe-value_at fit const_row (const-row-due fit.library.number) const-row-class r (given-at 0 (all-more (grows-on g g1) h) refl))) ⋄
+      maker refl refl refl (makes fit _ _ _ _ refl λ c w given h. safe-seq (pay-result fit Null given) λ l g. safe-new_row fit const_row (const-row-due fit.library.number) const-row-class (given-at 0 (all-more g h) refl)) ⋄
+      method refl (codes "size") (record { name = refl; there = refl; other = refl }) (runs fit _ _ _ _ refl λ c w this given f h. safe-seq (pay-plain fit this given) λ l g. safe-result (receive-row fit const_row (const-row-due fit.library.number) const-row-class (fits-more g (f refl)) λ last g1 o count r. safe-ret _ (int-fits S.program last _))) ⋄
       none
 
   pub of-int-row : Members S fit.library.number 16 class.IntRow
   unfolding library_place library_class rows string_class const_row int_row text_row immutable_class row_member library_words class_words member_words further_words has_own_makers
   of-int-row =
-      method (codes "get") refl refl refl (runs fit _ _ _ _ refl λ c w this given f h. safe-seq (pay-plain fit this given) λ l g. safe-result (receive-row fit int_row (int-row-due fit.library.number) int-row-class (fits-more g (f refl)) λ last g1 o count r. safe-value_at fit int_row (int-row-due fit.library.number) int-row-class r (given-at 0 (all-more (grows-on g g1) h) refl))) ⋄
-      maker refl refl (makes fit _ _ _ _ refl λ c w given h. safe-seq (pay-result fit Null given) λ l g. safe-new_row fit int_row (int-row-due fit.library.number) int-row-class (given-at 0 (all-more g h) refl)) ⋄
-      method (codes "size") refl refl refl (runs fit _ _ _ _ refl λ c w this given f h. safe-seq (pay-plain fit this given) λ l g. safe-result (receive-row fit int_row (int-row-due fit.library.number) int-row-class (fits-more g (f refl)) λ last g1 o count r. safe-ret _ (int-fits S.program last _))) ⋄
+      method refl (codes "get") (record { name = refl; there = refl; other = refl }) (runs fit _ _ _ _ refl λ c w this given f h. safe-seq (pay-plain fit this given) λ l g. safe-result (receive-row fit int_row (int-row-due fit.library.number) int-row-class (fits-more g (f refl)) λ last g1 o count r. safe-value_at fit int_row (int-row-due fit.library.number) int-row-class r (given-at 0 (all-more (grows-on g g1) h) refl))) ⋄
+      maker refl refl refl (makes fit _ _ _ _ refl λ c w given h. safe-seq (pay-result fit Null given) λ l g. safe-new_row fit int_row (int-row-due fit.library.number) int-row-class (given-at 0 (all-more g h) refl)) ⋄
+      method refl (codes "size") (record { name = refl; there = refl; other = refl }) (runs fit _ _ _ _ refl λ c w this given f h. safe-seq (pay-plain fit this given) λ l g. safe-result (receive-row fit int_row (int-row-due fit.library.number) int-row-class (fits-more g (f refl)) λ last g1 o count r. safe-ret _ (int-fits S.program last _))) ⋄
       none
 
   pub of-text-row : Members S fit.library.number 17 class.TextRow
   unfolding library_place library_class rows string_class const_row int_row text_row immutable_class row_member library_words class_words member_words further_words has_own_makers
   of-text-row =
-      method (codes "get") refl refl refl (runs fit _ _ _ _ refl λ c w this given f h. safe-seq (pay-plain fit this given) λ l g. safe-result (receive-row fit text_row (text-row-due fit.library.number) text-row-class (fits-more g (f refl)) λ last g1 o count r. safe-value_at fit text_row (text-row-due fit.library.number) text-row-class r (given-at 0 (all-more (grows-on g g1) h) refl))) ⋄
-      maker refl refl (makes fit _ _ _ _ refl λ c w given h. safe-seq (pay-result fit Null given) λ l g. safe-new_row fit text_row (text-row-due fit.library.number) text-row-class (given-at 0 (all-more g h) refl)) ⋄
-      method (codes "size") refl refl refl (runs fit _ _ _ _ refl λ c w this given f h. safe-seq (pay-plain fit this given) λ l g. safe-result (receive-row fit text_row (text-row-due fit.library.number) text-row-class (fits-more g (f refl)) λ last g1 o count r. safe-ret _ (int-fits S.program last _))) ⋄
+      method refl (codes "get") (record { name = refl; there = refl; other = refl }) (runs fit _ _ _ _ refl λ c w this given f h. safe-seq (pay-plain fit this given) λ l g. safe-result (receive-row fit text_row (text-row-due fit.library.number) text-row-class (fits-more g (f refl)) λ last g1 o count r. safe-value_at fit text_row (text-row-due fit.library.number) text-row-class r (given-at 0 (all-more (grows-on g g1) h) refl))) ⋄
+      maker refl refl refl (makes fit _ _ _ _ refl λ c w given h. safe-seq (pay-result fit Null given) λ l g. safe-new_row fit text_row (text-row-due fit.library.number) text-row-class (given-at 0 (all-more g h) refl)) ⋄
+      method refl (codes "size") (record { name = refl; there = refl; other = refl }) (runs fit _ _ _ _ refl λ c w this given f h. safe-seq (pay-plain fit this given) λ l g. safe-result (receive-row fit text_row (text-row-due fit.library.number) text-row-class (fits-more g (f refl)) λ last g1 o count r. safe-ret _ (int-fits S.program last _))) ⋄
       none

@@ -8,4 +8,5 @@ mod Throwables
 mod Cases
 mod Classes
 mod Members
+mod Reached
 mod Rows

@@ -22,6 +22,7 @@ use Rattle.je_java.specs.LibraryMembers.{has_own_makers, member_of_class, member
 use Rattle.je_java.specs.library.Throwables.{refused_class, throwable_class, throwable_member}
 use Rattle.je_sound.proofs.Library.{there-too}
 use Rattle.library_classes.specs.Library.{all_due, method_due, methods_due, rows}
+use Rattle.class_names.specs.Words.{class_words, further_words, library_words, member_words}
 use Rattle.library_places.specs.Places.{library_place}
 use Rattle.eval_sound.specs.Premises.{IsOfLibrary, MakerIsSafe, MemberIsSafe}
 use Rattle.eval_sound.specs.Safety.{Any, Safe, Setting}
@@ -65,29 +66,34 @@ module _ (S : Setting) (fit : Known S.program) where
   of-exception : (n : ℕ) (c : LibraryClass) → IsException fit.library.number n c → Members S fit.library.number n c
   unfolding library_class throwable_member string_class
   of-exception n c is = subst (Each S fit.library.number (library_number n) 0) (sym is.methods) (
-      member is.handed (runs fit _ _ _ _ is.empty λ w objects this given f h. paid-void fit (pay-plain fit this given) h λ l g a.
+      member (ap is_tame_in is.empty) is.handed (runs fit _ _ _ _ is.empty λ w objects this given f h. paid-void fit (pay-plain fit this given) h λ l g a.
       subst (λ m. Safe S w l Any m) (sym (is.does S.program (library_number n) (codes "new()") this given)) (safe-ret _ any)) ⋄
-      member is.handed (runs fit _ _ _ _ is.with_text λ w objects this given f h. paid-void fit (pay-plain fit this given) h λ l g a.
+      member (ap is_tame_in is.with_text) is.handed (runs fit _ _ _ _ is.with_text λ w objects this given f h. paid-void fit (pay-plain fit this given) h λ l g a.
       subst (λ m. Safe S w l Any m) (sym (is.does S.program (library_number n) (codes "new(String)") this given))
       (safe-with_message fit (fits-above S.program fit (fits-more g (f refl)) (thrown-agrees S.program fit 5 (library_number n) is.below)) (given-at 0 a refl))) ⋄ none)
 
   of-throwable : Members S fit.library.number 9 class.Throwable
   unfolding library_place library_class rows throwable_member throwable_class string_class has_own_makers
   of-throwable =
-      member refl (runs fit _ _ _ _ refl λ c w this given f h. paid fit (pay-plain fit this given) h λ l g a. safe-message fit (fits-more g (f refl))) ⋄
-      member refl (runs fit _ _ _ _ refl λ c w this given f h. paid-void fit (pay-plain fit this given) h λ l g a. safe-ret _ any) ⋄
-      member refl (runs fit _ _ _ _ refl λ c w this given f h. paid-void fit (pay-plain fit this given) h λ l g a. safe-with_message fit (fits-more g (f refl)) (given-at 0 a refl)) ⋄
+      member refl refl (runs fit _ _ _ _ refl λ c w this given f h. paid fit (pay-plain fit this given) h λ l g a. safe-message fit (fits-more g (f refl))) ⋄
+      member refl refl (runs fit _ _ _ _ refl λ c w this given f h. paid-void fit (pay-plain fit this given) h λ l g a. safe-ret _ any) ⋄
+      member refl refl (runs fit _ _ _ _ refl λ c w this given f h. paid-void fit (pay-plain fit this given) h λ l g a. safe-with_message fit (fits-more g (f refl)) (given-at 0 a refl)) ⋄
       none
 
   of-refused : Members S fit.library.number 23 class.Refused
   unfolding library_place library_class rows throwable_member refused_class has_own_makers
-  of-refused = member refl (runs fit _ _ _ _ refl λ c w this given f h. paid fit (pay-plain fit this given) h λ l g a. safe-code fit (fits-more g (f refl))) ⋄ none
+  of-refused = member refl refl (runs fit _ _ _ _ refl λ c w this given f h. paid fit (pay-plain fit this given) h λ l g a. safe-code fit (fits-more g (f refl))) ⋄ none
 
   -- ---- wild members, and those of interfaces
 
   of-system : Members S fit.library.number 6 class.System
-  unfolding library_place library_class rows
-  of-system = wild refl ⋄ wild refl ⋄ wild refl ⋄ wild refl ⋄ none
+  unfolding library_place library_class rows library_words class_words member_words further_words
+  of-system =
+      wild refl (codes "currentTimeMillis") (record { name = refl; there = refl; other = refl }) ⋄
+      wild refl (codes "getProperty") (record { name = refl; there = refl; other = refl }) ⋄
+      wild refl (codes "identityHashCode") (record { name = refl; there = refl; other = refl }) ⋄
+      wild refl (codes "setProperty") (record { name = refl; there = refl; other = refl }) ⋄
+      none
 
   of-comparable : Members S fit.library.number 7 class.Comparable
   unfolding rows
@@ -224,7 +230,7 @@ module _ (S : Setting) (fit : Known S.program) where
       no_class
 
   -- a member of the library
-  case-of : (k : ClassId) (at : ℕ) (m : CoreMethod) → IsOfLibrary S.program k at m → Case S fit.library.number k at m
+  pub case-of : (k : ClassId) (at : ℕ) (m : CoreMethod) → IsOfLibrary S.program k at m → Case S fit.library.number k at m
   case-of k at m of = by (slice_get_cases (all_due fit.library.number) k.0).1
     where
       within : k.0 < 39
@@ -249,10 +255,10 @@ members_are_safe decided setting f class at m of tame which = by (case-of settin
     fit = known decided f
 
     by : Case setting fit.library.number class at m → MemberIsSafe setting class at m
-    by (member handed safe) = safe
-    by (method word name there other safe) = safe
-    by (maker own name safe) = apart (and-true own (constructor-named setting.program fit.library m name)) which
-    by (wild e) = wild-or-tame class at tame e
+    by (member row handed safe) = safe
+    by (method row word is safe) = safe
+    by (maker row own name safe) = apart (and-true own (constructor-named setting.program fit.library m name)) which
+    by (wild e word is) = wild-or-tame class at tame e
     by (abstract e) = apart e of.concrete
 
 pub makers_are_safe : SubtypesAreDecided → MakersAreSafe
@@ -262,8 +268,8 @@ makers_are_safe decided setting f class at m of tame own is = by (case-of settin
     fit = known decided f
 
     by : Case setting fit.library.number class at m → MakerIsSafe setting class at m
-    by (member handed safe) = apart own handed
-    by (method word name there other safe) = apart is (method-named setting.program fit.library m word name there other)
-    by (maker own' name safe) = safe
-    by (wild e) = wild-or-tame class at tame e
+    by (member row handed safe) = apart own handed
+    by (method row word w safe) = apart is (method-named setting.program fit.library m word w.name w.there w.other)
+    by (maker row own' name safe) = safe
+    by (wild e word is) = wild-or-tame class at tame e
     by (abstract e) = apart e of.concrete

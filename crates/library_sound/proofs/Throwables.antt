@@ -83,7 +83,7 @@ climbs number zero k = same_class k throwable_class
 climbs number (suc n) k = same_class k throwable_class || list_any (climbs number n) (supers_in (slice_get (all_due number) k.0))
 
 module _ (p : CoreProgram) (known : Known p) where
-  below-throwable : (n : ℕ) (k : ClassId) → climbs known.library.number n k ≡ true → Below p k throwable_class
+  pub below-throwable : (n : ℕ) (k : ClassId) → climbs known.library.number n k ≡ true → Below p k throwable_class
   below-throwable zero k e = subst (Below p k) (same_class-equal k throwable_class e) same
   below-throwable (suc n) k e = either-way (same_class k throwable_class) (list_any (climbs known.library.number n) (supers_in (slice_get (all_due known.library.number) k.0))) e
       (λ q. subst (Below p k) (same_class-equal k throwable_class q) same)

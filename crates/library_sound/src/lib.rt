@@ -1,14 +1,15 @@
 //! The library's part of type soundness: a tame member of the library that can run gives what it is declared to give, or
 //! throws, on a receiver and arguments that fit it; it never comes to `Wrong`. Definitions and laws alone.
 //!
-//! - `specs/Laws.antt`: which members are tame, and the two laws.
+//! - `specs/Laws.antt`: which members are tame, when a program comes to no others, and the laws.
 //!
 //! Proofs go by the members: what arguments come to (`proofs/Arguments.antt`), what receivers hold (`Holders.antt`), each
 //! member of a class (`Texts.antt`, `Builders.antt`, `Numbers.antt`, `RowObjects.antt`, `Throwables.antt`), then the classes
-//! in the order of the table (`Classes.antt`, `Members.antt`).
+//! in the order of the table (`Classes.antt`, `Members.antt`), and what a program comes
+//! to (`Reached.antt`).
 #![tactic(auto)]
 
-ghost use Rattle.library_sound.specs.Laws.{MakersAreSafe, MembersAreSafe};
+ghost use Rattle.library_sound.specs.Laws.{MakersAreSafe, MembersAreSafe, TameIsSafe};
 
 use je_classes::subtypes_are_decided;
 
@@ -22,6 +23,13 @@ pub fn members_are_safe()
 /// So is a tame constructor that makes its object itself: those of strings, builders and rows.
 pub fn makers_are_safe()
     ensures { MakersAreSafe }
+{
+    subtypes_are_decided();
+}
+
+/// So the library is safe for a program that comes to tame members of it alone.
+pub fn tame_is_safe()
+    ensures { TameIsSafe }
 {
     subtypes_are_decided();
 }

@@ -1,0 +1,206 @@
+-- The constructors of the library are tame, and those that are handed their object have instances; so what a program makes is safe.
+use Rattle.std.proofs.Common.{◌≡◌, ◌+◌, ℕ, suc, List, [], ◌∷◌, Option, Some, None, refl, sym, ap, subst, ◌∙◌, arith}
+use Rattle.std.specs.Prelude.{Bool, true, false, not, ◌||◌, slice_get, if◌then◌else◌}
+use Rattle.std.specs.List.{list_all}
+use Rattle.std.proofs.lemmas.Option.{same_Some}
+use Rattle.je_base.specs.declared.span.NameId.{NameId}
+use Rattle.je_core.specs.declared.types.ClassId.{ClassId}
+use Rattle.je_core.specs.Core.{CoreClass, CoreMethod, CoreProgram}
+use Rattle.je_table.specs.Library.{Class, classes}
+use Rattle.je_table.specs.Library as table
+use Rattle.je_table.specs.Rows.{Row}
+use Rattle.je_classes.specs.Hierarchy.{class_at, library_class, object_class, same_class}
+use Rattle.je_classes.specs.Laws.{SubtypesAreDecided}
+use Rattle.je_classes.specs.Members.{Member, methods_of}
+use Rattle.je_classes.proofs.Below.{below-from}
+use Rattle.je_classes.proofs.Lists.{bool_cases}
+use Rattle.constructor_calls.specs.Calls.{is_plain_constructor, placed_in, plain_constructor, plain_from}
+use Rattle.je_fitting.specs.Classes.{SuperclassFits, can_be_extended, one_above}
+use Rattle.je_fitting.specs.Expressions.{is_constructor, is_interface_sort, method_at}
+use Rattle.je_fitting.specs.Members.{is_guest}
+use Rattle.je_fitting.proofs.Booleans.{two}
+use Rattle.je_java.specs.LibraryMembers.{has_own_makers, member_row}
+use Rattle.je_java.specs.Subclasses.{superclass_in, superclass_of}
+use Rattle.je_java.specs.library.Throwables.{throwable_class as thrown_class}
+use Rattle.je_sound.specs.Objects.{has_instances, throwable_class, token_class}
+use Rattle.je_sound.proofs.Dispatched.{class-fits}
+use Rattle.library_classes.specs.Library.{all_due, class_due, rows, sort_due}
+use Rattle.library_fits.proofs.Members.{HasRow, IsMethod, at-passes, library-row, method-row, named}
+use Rattle.library_fits.proofs.Named.{method-named}
+use Rattle.library_fits.proofs.Table.{apart, class-there}
+use Rattle.library_fits.proofs.Tests.{all_from, each-row, implies, is_maker, methods_by}
+use Rattle.eval_sound.specs.Premises.{IsOfLibrary, MemberIsSafe}
+use Rattle.eval_sound.specs.Safety.{Setting}
+use Rattle.eval_sound.proofs.Evaluation.{known}
+use Rattle.eval_sound.proofs.Operators.{either-way}
+use Rattle.eval_sound.proofs.Types.{Known}
+use Rattle.library_sound.specs.Laws.{IsTame, IsTameMember, TameIsSafe}
+use Rattle.library_sound.proofs.Cases.{Case, abstract, is_tame_in, maker, member, method, wild}
+use Rattle.library_sound.proofs.Members.{case-of, makers_are_safe, members_are_safe}
+use Rattle.library_sound.proofs.Throwables.{below-throwable, climbs}
+
+or-left : {a : Bool} (b : Bool) → a ≡ true → (a || b) ≡ true
+or-left b e = rw e refl
+
+or-right : (a : Bool) {b : Bool} → b ≡ true → (a || b) ≡ true
+or-right true e = refl
+or-right false e = e
+
+-- ---- constructors are tame
+
+tame-row : (k : ClassId) (at : ℕ) → is_tame_in (member_row k at) ≡ true → IsTame k at
+tame-row k at h = by (member_row k at) refl h
+  where
+    by : (o : Option table.Member) → member_row k at ≡ o → is_tame_in o ≡ true → IsTame k at
+    by None q e = absurd cc
+    by (Some r) q e = record { row = r; there = q; tame = e }
+
+tame-constructor : (S : Setting) (fit : Known S.program) (k : ClassId) (at : ℕ) (m : CoreMethod) → IsOfLibrary S.program k at m → is_constructor S.program m ≡ true → IsTame k at
+tame-constructor S fit k at m of is = by (case-of S fit k at m of)
+  where
+    by : Case S fit.library.number k at m → IsTame k at
+    by (member row handed safe) = tame-row k at row
+    by (method row word w safe) = tame-row k at row
+    by (maker row own name safe) = tame-row k at row
+    by (wild row word w) = apart is (method-named S.program fit.library m word w.name w.there w.other)
+    by (abstract e) = apart e of.concrete
+
+-- ---- what constructors are handed
+
+-- a class with constructors makes its objects by itself, or has instances
+abbrev is_instance_class : (List ℕ → NameId) → ClassId → Class → Bool
+is_instance_class number k c = list_all (λ (r : Row). implies (is_maker r) (has_own_makers k || (same_class k object_class || same_class k token_class || climbs number 5 k))) (methods_by c)
+
+instance-classes : (number : List ℕ → NameId) → all_from (is_instance_class number) 0 classes ≡ true
+unfolding library_class object_class token_class thrown_class all_due rows has_own_makers
+instance-classes number = refl
+
+-- and one that makes them by itself is final
+abbrev is_closed_class : ClassId → Class → Bool
+is_closed_class k c = implies (has_own_makers k) c.is_final
+
+closed-classes : all_from is_closed_class 0 classes ≡ true
+unfolding has_own_makers
+closed-classes = refl
+
+-- a plain constructor that was found
+record PlainAt (n : ℕ) (ms : List CoreMethod) (i : ℕ) : Type 0 where
+  at : ℕ
+  place : i ≡ n + at
+  method : CoreMethod
+  there : slice_get ms at ≡ Some method
+
+module _ (p : CoreProgram) where
+  record IsPlainAt (n : ℕ) (ms : List CoreMethod) (i : ℕ) : Type 0 where
+    found : PlainAt n ms i
+    constructor : is_constructor p found.method ≡ true
+
+  plain-at : (n : ℕ) (ms : List CoreMethod) (i : ℕ) → plain_from p n ms ≡ Some i → IsPlainAt n ms i
+  plain-at n [] i e = absurd cc
+  plain-at n (m ∷ ms) i e = by (is_plain_constructor p m) refl e (plain-at (suc n) ms i)
+    where
+      by : (b : Bool) → is_plain_constructor p m ≡ b → (if b then Some n else plain_from p (suc n) ms) ≡ Some i → (plain_from p (suc n) ms ≡ Some i → IsPlainAt (suc n) ms i) → IsPlainAt n (m ∷ ms) i
+      by true q h more =
+          let same : n ≡ i = same_Some n i h in
+          record { found = record { at = 0; place = omega (arith, same); method = m; there = refl }; constructor = (two {a = is_constructor p m} q).0 }
+      by false q h more =
+          let r = more h in
+          let s : i ≡ suc n + r.found.at = r.found.place in
+          record { found = record { at = suc r.found.at; place = omega (arith, s); method = r.found.method; there = r.found.there }; constructor = r.constructor }
+
+module _ (S : Setting) (fit : Known S.program) where
+  -- a constructor by its row
+  maker-row : (k : ClassId) (at : ℕ) (m : CoreMethod) (im : IsMethod fit.decided S.program fit.library k at m) → is_constructor S.program m ≡ true → is_maker im.row ≡ true
+  maker-row k at m im is = by (is_maker im.row) refl
+    where
+      by : (b : Bool) → is_maker im.row ≡ b → b ≡ true
+      by true q = refl
+      by false q = apart is (method-named S.program fit.library m im.row.name (sym (ap (λ (x : CoreMethod). x.name) im.is)) (named im.class at im.row im.stands) q)
+
+  made-instance : (k : ClassId) (at : ℕ) (m : CoreMethod) → IsOfLibrary S.program k at m → is_constructor S.program m ≡ true → has_own_makers k ≡ false → has_instances S.program k ≡ true
+  unfolding throwable_class thrown_class
+  made-instance k at m of is own = by (rw (maker-row k at m im is, own) at test)
+    where
+      im : IsMethod fit.decided S.program fit.library k at m
+      im = method-row fit.decided S.program fit.library k (library-row k of.of_library) at m of.there
+
+      test : implies (is_maker im.row) (has_own_makers k || (same_class k object_class || same_class k token_class || climbs fit.library.number 5 k)) ≡ true
+      test = at-passes (λ (r : Row). implies (is_maker r) (has_own_makers k || (same_class k object_class || same_class k token_class || climbs fit.library.number 5 k))) (methods_by im.class)
+          (each-row (is_instance_class fit.library.number) (instance-classes fit.library.number) k im.class im.there) at im.row im.stands
+
+      by : (same_class k object_class || same_class k token_class || climbs fit.library.number 5 k) ≡ true → has_instances S.program k ≡ true
+      by h = either-way (same_class k object_class || same_class k token_class) (climbs fit.library.number 5 k) h
+          (λ q. either-way (same_class k object_class) (same_class k token_class) q (λ z. or-left _ (or-left _ (or-right (is_guest k) z))) (λ z. or-left _ (or-right (is_guest k || same_class k object_class) z)))
+          (λ q. or-right (is_guest k || same_class k object_class || same_class k token_class) (below-from S.program (below-throwable S.program fit 5 k q)))
+
+  -- ---- the superclass of a guest
+
+  extended : (sub class : ClassId) → superclass_of S.program sub ≡ Some class → can_be_extended (class_at S.program class) ≡ true
+  extended sub class e = by (class_at S.program sub) refl e
+    where
+      of-class : (c : CoreClass) (o : Option ClassId) → SuperclassFits S.program sub c o → o ≡ Some class → can_be_extended (class_at S.program class) ≡ true
+      of-class c None f q = absurd cc
+      of-class c (Some s) (one_above x y) q = subst (λ (d : ClassId). can_be_extended (class_at S.program d) ≡ true) (same_Some s class q) y
+
+      by : (o : Option CoreClass) → class_at S.program sub ≡ o → superclass_in o ≡ Some class → can_be_extended (class_at S.program class) ≡ true
+      by None q h = absurd cc
+      by (Some c) q h = of-class c c.superclass (class-fits S.program fit.whole sub c q).superclass h
+
+  handed-above : (sub class : ClassId) → superclass_of S.program sub ≡ Some class → is_guest class ≡ false → has_own_makers class ≡ false
+  handed-above sub class e g = by (has_own_makers class) refl
+    where
+      r : HasRow class
+      r = library-row class g
+
+      by : (b : Bool) → has_own_makers class ≡ b → b ≡ false
+      by false q = refl
+      by true q =
+          let final = rw q at (each-row is_closed_class closed-classes class r.row r.there) in
+          let wide = sym (ap can_be_extended (class-there S.program fit.library class r.row r.there)) ∙ extended sub class e in
+          let no : can_be_extended (Some (class_due fit.library.number class.0 r.row)) ≡ false = bool_cases (λ b. not (b || r.row.is_final) ≡ false) (is_interface_sort (sort_due r.row)) (λ _. refl) (λ _. rw final refl) in
+          apart wide no
+
+  record IsAbove (class : ClassId) (found : Member) : Type 0 where
+    class_is : class ≡ found.class
+    constructor : (m : CoreMethod) → method_at S.program found.class found.at ≡ Some m → is_constructor S.program m ≡ true
+
+  above-is : (class : ClassId) (found : Member) → plain_constructor S.program (Some class) ≡ Some found → IsAbove class found
+  above-is class found e = by (plain_from S.program 0 (methods_of S.program class)) refl e
+    where
+      by : (o : Option ℕ) → plain_from S.program 0 (methods_of S.program class) ≡ o → placed_in S.program class o ≡ Some found → IsAbove class found
+      by None q h = absurd cc
+      by (Some i) q h =
+          let x = plain-at S.program 0 (methods_of S.program class) i q in
+          let place : i ≡ 0 + x.found.at = x.found.place in
+          let at : x.found.at ≡ i = omega (arith, place) in
+          let is : (let m : Member = record { class = class; at = i } in m) ≡ found = same_Some _ found h in
+          record {
+            class_is = ap (λ (m : Member). m.class) is;
+            constructor = λ m e.
+                let there : slice_get (methods_of S.program class) i ≡ Some m = subst (λ (y : Member). slice_get (methods_of S.program y.class) y.at ≡ Some m) (sym is) e in
+                subst (λ (y : CoreMethod). is_constructor S.program y ≡ true) (same_Some x.found.method m (sym x.found.there ∙ ap (slice_get (methods_of S.program class)) at ∙ there)) x.constructor;
+          }
+
+-- ---- the library is safe
+
+pub tame_is_safe : SubtypesAreDecided → TameIsSafe
+tame_is_safe decided S f comes = record {
+  dispatched_to = λ own class at o target method c there made d of. let t = comes.dispatched_to own class at o target method c there made d of in called target.class target.at method of t;
+  devices = comes.devices;
+  named = λ {receiver = receiver} {class = class} {at = at} method allowed of. called class at method of (comes.named method allowed of);
+  made = λ {class = class} {at = at} constructor allowed of own.
+      called class at constructor of (record { tame = tame-constructor S fit class at constructor of (comes.made constructor allowed of); handed = rw own refl });
+  instances = λ {class = class} {at = at} constructor allowed of own. made-instance S fit class at constructor of (comes.made constructor allowed of) own;
+  makers = λ {class = class} {at = at} constructor allowed of own.
+      let is = comes.made constructor allowed of in makers_are_safe decided S f class at constructor of (tame-constructor S fit class at constructor of is) own is;
+  above = λ sub class target constructor g super plain of.
+      let a = above-is S fit class target plain in
+      let own = subst (λ (d : ClassId). has_own_makers d ≡ false) a.class_is (handed-above S fit sub class super (subst (λ (d : ClassId). is_guest d ≡ false) (sym a.class_is) of.of_library)) in
+      called target.class target.at constructor of (record { tame = tame-constructor S fit target.class target.at constructor of (a.constructor constructor of.there); handed = rw own refl });
+}
+  where
+    fit : Known S.program
+    fit = known decided f
+
+    called : (class : ClassId) (at : ℕ) (m : CoreMethod) → IsOfLibrary S.program class at m → IsTameMember S.program class at m → MemberIsSafe S class at m
+    called class at m of t = members_are_safe decided S f class at m of t.tame t.handed
