@@ -19,6 +19,7 @@ use Rattle.je_java.specs.LibraryMembers.{has_own_makers, member_of_class, member
 use Rattle.je_java.specs.Steps.{Computation, Nothing, bind, deref, get_units, seq}
 use Rattle.je_sound.specs.Values.{ValueFits}
 use Rattle.class_names.specs.Words.{library_words}
+use Rattle.plain_programs.specs.Wild.{is_wild}
 use Rattle.eval_sound.specs.Premises.{MakerIsSafe, MemberIsSafe}
 use Rattle.eval_sound.specs.Safety.{AllFitting, Any, Context, Fitting, Grows, ResultFits, Safe, Setting}
 use Rattle.eval_sound.proofs.Growth.{grows-on}
@@ -46,7 +47,7 @@ pub data Case (S : Setting) (number : List ℕ → NameId) (k : ClassId) (at : �
   -- a method of a class whose constructors make it
   method : is_tame_in (member_row k at) ≡ true → (word : List ℕ) → IsMethodWord number m word → MemberIsSafe S k at m → Case S number k at m
   maker : is_tame_in (member_row k at) ≡ true → has_own_makers k ≡ true → m.name ≡ number (codes "new") → MakerIsSafe S k at m → Case S number k at m
-  wild : is_tame_in (member_row k at) ≡ false → (word : List ℕ) → IsMethodWord number m word → Case S number k at m
+  wild : is_tame_in (member_row k at) ≡ false → is_wild (record { class = k; at = at }) ≡ true → (word : List ℕ) → IsMethodWord number m word → Case S number k at m
   abstract : m.flags.is_abstract ≡ true → Case S number k at m
 
 -- ---- of each method, and of each class, by their places

@@ -21,6 +21,7 @@ use Rattle.library_places.specs.Places.{library_place}
 use Rattle.class_names.specs.Words.{class_words, further_words, library_words, member_words}
 use Rattle.text_members.specs.Finding.{is_prefix, is_suffix}
 use Rattle.text_numbers.specs.Measures.{absolute, bit_count, greater, less}
+use Rattle.plain_programs.specs.Wild.{is_wild}
 use Rattle.eval_sound.specs.Safety.{Setting}
 use Rattle.eval_sound.proofs.Moves.{all-more, any, fits-more, safe-ret, safe-seq}
 use Rattle.eval_sound.proofs.Growth.{grows-on}
@@ -54,12 +55,12 @@ text-row-class = record { rows = refl; no_text = refl; no_builder = refl; no_dev
 
 module _ (S : Setting) (fit : Known S.program) where
   pub of-object : Members S fit.library.number 0 class.Object
-  unfolding library_place library_class rows object_class object_member has_own_makers library_words class_words member_words further_words
+  unfolding library_place library_class rows object_class object_member has_own_makers is_wild library_words class_words member_words further_words
   of-object =
       member refl refl (runs fit _ _ _ _ refl λ c w this given f h. paid fit (pay-plain fit this given) h λ l g a. safe-identity fit (fits-more g (f refl)) (given-at 0 a refl)) ⋄
-      wild refl (codes "hashCode") (record { name = refl; there = refl; other = refl }) ⋄
+      wild refl refl (codes "hashCode") (record { name = refl; there = refl; other = refl }) ⋄
       member refl refl (runs fit _ _ _ _ refl λ c w this given f h. paid-void fit (pay-plain fit this given) h λ l g a. safe-ret _ any) ⋄
-      wild refl (codes "toString") (record { name = refl; there = refl; other = refl }) ⋄
+      wild refl refl (codes "toString") (record { name = refl; there = refl; other = refl }) ⋄
       none
 
   pub of-string : Members S fit.library.number 1 class.String

@@ -9,4 +9,5 @@ mod Cases
 mod Classes
 mod Members
 mod Reached
+mod Allowed
 mod Rows

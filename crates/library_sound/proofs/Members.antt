@@ -25,6 +25,7 @@ use Rattle.library_classes.specs.Library.{all_due, method_due, methods_due, rows
 use Rattle.class_names.specs.Words.{class_words, further_words, library_words, member_words}
 use Rattle.library_places.specs.Places.{library_place}
 use Rattle.eval_sound.specs.Premises.{IsOfLibrary, MakerIsSafe, MemberIsSafe}
+use Rattle.plain_programs.specs.Wild.{is_wild}
 use Rattle.eval_sound.specs.Safety.{Any, Safe, Setting}
 use Rattle.eval_sound.proofs.Evaluation.{known}
 use Rattle.library_fits.proofs.Table.{apart}
@@ -87,12 +88,12 @@ module _ (S : Setting) (fit : Known S.program) where
   -- ---- wild members, and those of interfaces
 
   of-system : Members S fit.library.number 6 class.System
-  unfolding library_place library_class rows library_words class_words member_words further_words
+  unfolding library_place library_class rows is_wild library_words class_words member_words further_words
   of-system =
-      wild refl (codes "currentTimeMillis") (record { name = refl; there = refl; other = refl }) ⋄
-      wild refl (codes "getProperty") (record { name = refl; there = refl; other = refl }) ⋄
-      wild refl (codes "identityHashCode") (record { name = refl; there = refl; other = refl }) ⋄
-      wild refl (codes "setProperty") (record { name = refl; there = refl; other = refl }) ⋄
+      wild refl refl (codes "currentTimeMillis") (record { name = refl; there = refl; other = refl }) ⋄
+      wild refl refl (codes "getProperty") (record { name = refl; there = refl; other = refl }) ⋄
+      wild refl refl (codes "identityHashCode") (record { name = refl; there = refl; other = refl }) ⋄
+      wild refl refl (codes "setProperty") (record { name = refl; there = refl; other = refl }) ⋄
       none
 
   of-comparable : Members S fit.library.number 7 class.Comparable
@@ -258,7 +259,7 @@ members_are_safe decided setting f class at m of tame which = by (case-of settin
     by (member row handed safe) = safe
     by (method row word is safe) = safe
     by (maker row own name safe) = apart (and-true own (constructor-named setting.program fit.library m name)) which
-    by (wild e word is) = wild-or-tame class at tame e
+    by (wild e is word w) = wild-or-tame class at tame e
     by (abstract e) = apart e of.concrete
 
 pub makers_are_safe : SubtypesAreDecided → MakersAreSafe
@@ -271,5 +272,5 @@ makers_are_safe decided setting f class at m of tame own is = by (case-of settin
     by (member row handed safe) = apart own handed
     by (method row word w safe) = apart is (method-named setting.program fit.library m word w.name w.there w.other)
     by (maker row own' name safe) = safe
-    by (wild e word is) = wild-or-tame class at tame e
+    by (wild e is word w) = wild-or-tame class at tame e
     by (abstract e) = apart e of.concrete

@@ -29,12 +29,13 @@ use Rattle.library_fits.proofs.Members.{HasRow, IsMethod, at-passes, library-row
 use Rattle.library_fits.proofs.Named.{method-named}
 use Rattle.library_fits.proofs.Table.{apart, class-there}
 use Rattle.library_fits.proofs.Tests.{all_from, each-row, implies, is_maker, methods_by}
+use Rattle.plain_programs.specs.Wild.{is_wild}
 use Rattle.eval_sound.specs.Premises.{IsOfLibrary, MemberIsSafe}
 use Rattle.eval_sound.specs.Safety.{Setting}
 use Rattle.eval_sound.proofs.Evaluation.{known}
 use Rattle.eval_sound.proofs.Operators.{either-way}
 use Rattle.eval_sound.proofs.Types.{Known}
-use Rattle.library_sound.specs.Laws.{IsTame, IsTameMember, TameIsSafe}
+use Rattle.library_sound.specs.Laws.{IsTame, IsTameMember, OthersAreTame, TameIsSafe}
 use Rattle.library_sound.proofs.Cases.{Case, abstract, is_tame_in, maker, member, method, wild}
 use Rattle.library_sound.proofs.Members.{case-of, makers_are_safe, members_are_safe}
 use Rattle.library_sound.proofs.Throwables.{below-throwable, climbs}
@@ -62,8 +63,22 @@ tame-constructor S fit k at m of is = by (case-of S fit k at m of)
     by (member row handed safe) = tame-row k at row
     by (method row word w safe) = tame-row k at row
     by (maker row own name safe) = tame-row k at row
-    by (wild row word w) = apart is (method-named S.program fit.library m word w.name w.there w.other)
+    by (wild row is-wild word w) = apart is (method-named S.program fit.library m word w.name w.there w.other)
     by (abstract e) = apart e of.concrete
+
+-- so is what isn't wild
+tame-member : (S : Setting) (fit : Known S.program) (k : ClassId) (at : ℕ) (m : CoreMethod) → IsOfLibrary S.program k at m → is_wild (record { class = k; at = at }) ≡ false → IsTame k at
+tame-member S fit k at m of plain = by (case-of S fit k at m of)
+  where
+    by : Case S fit.library.number k at m → IsTame k at
+    by (member row handed safe) = tame-row k at row
+    by (method row word w safe) = tame-row k at row
+    by (maker row own name safe) = tame-row k at row
+    by (wild row is-wild word w) = apart is-wild plain
+    by (abstract e) = apart e of.concrete
+
+pub others_are_tame : SubtypesAreDecided → OthersAreTame
+others_are_tame decided setting f class at m of plain = tame-member setting (known decided f) class at m of plain
 
 -- ---- what constructors are handed
 

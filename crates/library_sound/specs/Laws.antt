@@ -1,10 +1,10 @@
 -- Which members of the library are tame, and that these are safe. A wild member tells worlds apart, or the time, so evaluation
 -- gives it no meaning.
-use Rattle.std.specs.Prelude.{◌≡◌, ◌&&◌, ℕ, List, true, false, Some}
+use Rattle.std.specs.Prelude.{◌≡◌, ◌&&◌, ℕ, List, Bool, not, true, false, Some}
 use Rattle.je_base.specs.declared.span.Span.{Span}
 use Rattle.je_core.specs.declared.types.ClassId.{ClassId}
 use Rattle.je_core.specs.declared.types.Ty.{Ty}
-use Rattle.je_core.specs.Core.{Cores, MaybeCore, CoreCapture, CoreClass, CoreMethod, CoreProgram, node}
+use Rattle.je_core.specs.Core.{Core, Cores, MaybeCore, CoreCapture, CoreClass, CoreMethod, CoreProgram, form_of, node}
 use Rattle.je_core.specs.Core as core
 use Rattle.je_table.specs.Library as table
 use Rattle.je_classes.specs.Dispatch.{dispatched}
@@ -16,7 +16,9 @@ use Rattle.je_fitting.specs.Types.{agrees}
 use Rattle.je_java.specs.LibraryMembers.{has_own_makers, member_row}
 use Rattle.je_java.specs.Meaning.{member_at}
 use Rattle.je_sound.specs.Objects.{is_device_interface}
-use Rattle.eval_sound.specs.Premises.{ComesTo, Dispatches, IsOfLibrary, LibraryIsSafe, MakerIsSafe, MemberIsSafe}
+use Rattle.plain_programs.specs.Plain.{IsPlain, joins_wild, names_wild}
+use Rattle.plain_programs.specs.Wild.{is_wild}
+use Rattle.eval_sound.specs.Premises.{AllAllowed, ComesTo, Dispatches, IsOfLibrary, LibraryIsSafe, MakerIsSafe, MemberIsSafe}
 use Rattle.eval_sound.specs.Safety.{Allowed, ProgramFits, Setting}
 
 -- the row of the table that is the member of a number of a class, which says that it is tame
@@ -70,3 +72,19 @@ module _ (setting : Setting) where
 -- Then the library is safe, as evaluation asks it.
 abbrev pub TameIsSafe : Type 0
 TameIsSafe = (setting : Setting) → ProgramFits setting.program → ComesToTame setting → LibraryIsSafe setting
+
+-- ---- plain programs
+
+-- an expression that names no wild member, and joins no text that a wild one gives
+abbrev pub is_plain_node : CoreProgram → Core → Bool
+is_plain_node program e = not (names_wild (form_of e)) && not (joins_wild program (form_of e))
+
+-- Each expression of a plain program is one.
+abbrev pub PlainIsAllowed : Type 0
+PlainIsAllowed = (setting : Setting) → ((e : Core) → setting.test e ≡ is_plain_node setting.program e) →
+    IsPlain setting.program → AllAllowed setting
+
+-- A member of the library that can run and isn't wild is tame.
+abbrev pub OthersAreTame : Type 0
+OthersAreTame = (setting : Setting) → ProgramFits setting.program → (class : ClassId) (at : ℕ) (member : CoreMethod) →
+    IsOfLibrary setting.program class at member → is_wild (record { class = class; at = at }) ≡ false → IsTame class at

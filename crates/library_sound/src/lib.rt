@@ -9,7 +9,7 @@
 //! to (`Reached.antt`).
 #![tactic(auto)]
 
-ghost use Rattle.library_sound.specs.Laws.{MakersAreSafe, MembersAreSafe, TameIsSafe};
+ghost use Rattle.library_sound.specs.Laws.{MakersAreSafe, MembersAreSafe, OthersAreTame, PlainIsAllowed, TameIsSafe};
 
 use je_classes::subtypes_are_decided;
 
@@ -30,6 +30,18 @@ pub fn makers_are_safe()
 /// So the library is safe for a program that comes to tame members of it alone.
 pub fn tame_is_safe()
     ensures { TameIsSafe }
+{
+    subtypes_are_decided();
+}
+
+/// Each expression in a body of a plain program names no wild member, and joins no text that a wild one gives.
+pub fn plain_is_allowed()
+    ensures { PlainIsAllowed }
+{}
+
+/// A member of the library that isn't wild, as plain programs are asked to name none, is tame.
+pub fn others_are_tame()
+    ensures { OthersAreTame }
 {
     subtypes_are_decided();
 }
