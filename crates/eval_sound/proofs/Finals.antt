@@ -52,7 +52,7 @@ pub record ObjectOf (p : CoreProgram) (objects : List Obj) (k : ClassId) (o : Ob
   pub there : slice_get objects o.0 ≡ Some object
   pub kind : IsObject p object
   pub class : class_in (Some object) ≡ Some k
-  pub no_instance : has_instances p k ≡ true → ⊥
+  pub no_instance : ¬ (has_instances p k ≡ true)
 
 module _ (p : CoreProgram) (known : Known p) (k : ClassId) (due : FinalDue known.library.number k) where
   not-thrown : is_below p k throwable_class ≡ false
@@ -62,28 +62,28 @@ module _ (p : CoreProgram) (known : Known p) (k : ClassId) (due : FinalDue known
       by false q = refl
       by true q = apart (round-above p known.library k due.round due.is_round (below-to p k throwable_class q)) due.not_throwable
 
-  no-instance : has_instances p k ≡ true → ⊥
+  no-instance : ¬ (has_instances p k ≡ true)
   no-instance e = either-way (is_guest k || same_class k object_class || same_class k token_class) (is_below p k throwable_class) e (λ q. apart q due.bare) (λ q. apart q not-thrown)
 
   -- no class has it above itself
   there : class_at p k ≡ Some due.class
   there = there-too p known.library k due.class due.there
 
-  no-super : (d : ClassId) → Contains (supers_of p d) k → ⊥
+  no-super : (d : ClassId) → ¬ Contains (supers_of p d) k
   no-super d q = by (class_at p d) refl q
     where
-      interface-no : (c : CoreClass) → class_at p d ≡ Some c → Contains c.interfaces k → ⊥
+      interface-no : (c : CoreClass) → class_at p d ≡ Some c → ¬ Contains c.interfaces k
       interface-no c e h = apart (All-contains (λ i. is_interface (class_at p i) ≡ true) c.interfaces k (class-fits p known.whole d c e).interfaces h) (ap is_interface there ∙ due.plain)
 
-      of-class : (c : CoreClass) → class_at p d ≡ Some c → (o : Option ClassId) → SuperclassFits p d c o → Contains (with_superclass o c.interfaces) k → ⊥
+      of-class : (c : CoreClass) → class_at p d ≡ Some c → (o : Option ClassId) → SuperclassFits p d c o → ¬ Contains (with_superclass o c.interfaces) k
       of-class c e None f h = interface-no c e h
       of-class c e (Some s) (one_above g x) h = by-case (contains-cases s k c.interfaces h)
         where
-          by-case : (s ≡ k) ⊎ Contains c.interfaces k → ⊥
+          by-case : ¬ ((s ≡ k) ⊎ Contains c.interfaces k)
           by-case (inl z) = apart (subst (λ (y : ClassId). can_be_extended (class_at p y) ≡ true) z x) (ap can_be_extended there ∙ due.final)
           by-case (inr z) = interface-no c e z
 
-      by : (o : Option CoreClass) → class_at p d ≡ o → Contains (supers_in o) k → ⊥
+      by : (o : Option CoreClass) → class_at p d ≡ o → ¬ Contains (supers_in o) k
       by None e h = absurd (omega (arith, h.1))
       by (Some c) e h = of-class c e c.superclass (class-fits p known.whole d c e).superclass h
 
@@ -108,7 +108,7 @@ module _ (p : CoreProgram) (known : Known p) (k : ClassId) (due : FinalDue known
       typed : (c : ClassId) → Some (class_type c) ≡ Some f.own → c ≡ k
       typed c q = only-itself c (subst (λ (u : Ty). agrees p u (class_type k) ≡ true) (sym (same_Some (class_type c) f.own q)) f.agree)
 
-      of-array : (element : Ty) (b : Bool) → (if b then Some (array_of element) else None) ≡ Some f.own → ⊥
+      of-array : (element : Ty) (b : Bool) → ¬ ((if b then Some (array_of element) else None) ≡ Some f.own)
       of-array element true h = apart (array-agrees p element k (subst (λ (u : Ty). agrees p u (class_type k) ≡ true) (sym (same_Some (array_of element) f.own h)) f.agree)) due.not_object
       of-array element false h = absurd cc
 

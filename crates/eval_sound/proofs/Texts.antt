@@ -52,7 +52,7 @@ module _ (p : CoreProgram) (known : Known p) where
   string-units world o s f = let x = object-of p known string_class (string-due known.library.number) world o s f in
       let u = by x.no_instance x.object x.class x.kind in (u.0, ap units_in x.there ∙ u.1)
     where
-      by : (has_instances p string_class ≡ true → ⊥) → (x : Obj) → class_in (Some x) ≡ Some string_class → IsObject p x → (units : List ℕ) × (units_in (Some x) ≡ Some units)
+      by : ¬ (has_instances p string_class ≡ true) → (x : Obj) → class_in (Some x) ≡ Some string_class → IsObject p x → (units : List ℕ) × (units_in (Some x) ≡ Some units)
       by none (Instance k slots) e (an_instance there made has) = absurd (none (subst (λ (x : ClassId). has_instances p x ≡ true) (same_Some k string_class e) has))
       by none (Array element slots) e k = absurd cc
       by none (Text units) e k = (units, refl)

@@ -44,8 +44,8 @@ pub fn methods_are_concrete()
         MethodsAreConcrete source program e }
 {}
 
-/// Where headers name classes, a class that may be extended stands above each class but Object, and interfaces beside it
-/// and above interfaces (JLS 8.1.4, 8.1.5, 9.1.3, 15.9.5).
+/// Where headers name classes, a class that may be extended stands above each class but Object, and interfaces beside
+/// it and above interfaces (JLS 8.1.4, 8.1.5, 9.1.3, 15.9.5).
 pub fn headers_stand()
     ensures { (source : Source) (program : CoreProgram) (e : IsElaborated source program) →
         HeadersStand source program e }
@@ -58,15 +58,15 @@ pub fn variables_stand()
         VariablesStand source program e }
 {}
 
-/// Where no name has a fault, and no class with a body behind `new` is below a type variable, what headers name as above
-/// their classes are classes (JLS 8.1.4, 8.1.5, 9.1.3).
+/// Where no name has a fault, and no class with a body behind `new` is below a type variable, what headers name as
+/// above their classes are classes (JLS 8.1.4, 8.1.5, 9.1.3).
 pub fn heads_are_classes()
     ensures { (source : Source) (program : CoreProgram) (e : IsElaborated source program) →
         HeadsNameClasses source program e }
 {}
 
-/// No fault of overriding stands at what a class of the source inherits, and unless it is abstract, it has a body for each
-/// method (JLS 8.1.1.1, 8.4.8).
+/// No fault of overriding stands at what a class of the source inherits, and unless it is abstract, it has a body for
+/// each method (JLS 8.1.1.1, 8.4.8).
 pub fn classes_inherit_well()
     ensures { (source : Source) (program : CoreProgram) (e : IsElaborated source program) →
         ClassesInheritWell source program e }

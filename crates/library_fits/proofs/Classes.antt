@@ -51,10 +51,10 @@ not-static m e = by m.flags.is_static refl
     by false q = refl
     by true q = absurd (let z : is_own m ≡ false = rw q refl in apart e z)
 
-no-method : (e : Class) → nat_eq (length (methods_by e)) 0 ≡ true → (at : ℕ) (r : Row) → slice_get (methods_by e) at ≡ Some r → ⊥
+no-method : (e : Class) → nat_eq (length (methods_by e)) 0 ≡ true → (at : ℕ) (r : Row) → ¬ (slice_get (methods_by e) at ≡ Some r)
 no-method e h at r q = by (methods_by e) h q
   where
-    by : (rs : List Row) → nat_eq (length rs) 0 ≡ true → slice_get rs at ≡ Some r → ⊥
+    by : (rs : List Row) → nat_eq (length rs) 0 ≡ true → ¬ (slice_get rs at ≡ Some r)
     by [] z g = absurd cc
     by (x ∷ rs) z g = absurd (let n : suc (length rs) ≡ 0 = grind (arith, nat_tests, z) in omega (arith, n))
 
@@ -119,11 +119,11 @@ module _ (decided : SubtypesAreDecided) (p : CoreProgram) (s : LibraryStands p) 
           let r = mapped (method_due s.number c) (methods_by c) o.at x.1 o.there in
           ap (λ (y : CoreMethod). y.flags.is_abstract) (sym r.2) ∙ n
 
-      nothing : (fuel : ℕ) → implemented_upwards p fuel j (Some k) ≡ Some m → ⊥
+      nothing : (fuel : ℕ) → ¬ (implemented_upwards p fuel j (Some k) ≡ Some m)
       nothing zero q = absurd cc
       nothing (suc fuel) q = by-own (own_from j 0 (class_due s.number k.0 c).methods) _ refl (own-some j (own-itself j i.own private) 0 (class_due s.number k.0 c).methods at here) (rw (class-there p s k c there) at q)
         where
-          by-own : (o : Option (ℕ × CoreMethod)) (higher : Option Member) → own_from j 0 (class_due s.number k.0 c).methods ≡ o → is_some o ≡ true → placed k o higher ≡ Some m → ⊥
+          by-own : (o : Option (ℕ × CoreMethod)) (higher : Option Member) → own_from j 0 (class_due s.number k.0 c).methods ≡ o → is_some o ≡ true → ¬ (placed k o higher ≡ Some m)
           by-own None higher z y w = absurd cc
           by-own (Some x) higher z y w = let v = rw (abstract-ones x z) at w in absurd cc
 

@@ -12,7 +12,7 @@ use Rattle.library_classes.specs.Library.{LibraryStands, all_due, class_due, cla
 pub apart : {A : Type 0} {b : Bool} → b ≡ true → b ≡ false → A
 apart e f = absurd (let z = sym e ∙ f in no z)
   where
-    no : true ≡ false → ⊥
+    no : ¬ (true ≡ false)
     no q = absurd cc
 
 due-at : (number : List ℕ → NameId) (n : ℕ) (cs : List Class) (at : ℕ) (c : Class) → slice_get cs at ≡ Some c → slice_get (classes_due number n cs) at ≡ Some (class_due number (at + n) c)

@@ -105,7 +105,7 @@ builder-no-device : is_device_interface builder_class ≡ false
 unfolding library_class builder_class device_interfaces
 builder-no-device = refl
 
-builder-differs : string_class ≡ builder_class → ⊥
+builder-differs : ¬ (string_class ≡ builder_class)
 builder-differs e = apart (subst (λ (x : ClassId). same_class string_class x ≡ true) e (same_class-refl string_class)) builder-no-text
 
 -- ---- units
@@ -130,7 +130,7 @@ module _ (p : CoreProgram) (known : Known p) where
   builder-held world o s f = let x = object-of p known builder_class (builder-due known.library.number) world o s f in
       let u = by x.no_instance x.object x.class x.kind in (u.0, ap held_in x.there ∙ u.1)
     where
-      by : (has_instances p builder_class ≡ true → ⊥) → (x : Obj) → class_in (Some x) ≡ Some builder_class → IsObject p x → (units : List ℕ) × (held_in (Some x) ≡ Some units)
+      by : ¬ (has_instances p builder_class ≡ true) → (x : Obj) → class_in (Some x) ≡ Some builder_class → IsObject p x → (units : List ℕ) × (held_in (Some x) ≡ Some units)
       by none (Instance k slots) e (an_instance there made has) = absurd (none (subst (λ (x : ClassId). has_instances p x ≡ true) (same_Some k builder_class e) has))
       by none (Array element slots) e k = absurd cc
       by none (Text units) e k = absurd (builder-differs (same_Some string_class builder_class e))

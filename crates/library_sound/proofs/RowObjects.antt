@@ -47,7 +47,7 @@ pub record IsRow (S : Setting) (k : ClassId) (o : ObjId) (objects : List Obj) (c
   pub fits : ValueFits S.program objects (class_type k) (Ref o)
   pub shape : HasShape objects o.0 (record { type = Some (class_type k); count = count })
 
-row-slot : (p : CoreProgram) (k : ClassId) → RowClass k → (x : Obj) (count at : ℕ) → (has_instances p k ≡ true → ⊥) → IsObject p x → class_in (Some x) ≡ Some k → length (slots_of x) ≡ count →
+row-slot : (p : CoreProgram) (k : ClassId) → RowClass k → (x : Obj) (count at : ℕ) → ¬ (has_instances p k ≡ true) → IsObject p x → class_in (Some x) ≡ Some k → length (slots_of x) ≡ count →
     at < count → slot_type_in p (Some x) at ≡ Some (row_type k)
 row-slot p k is (Instance c slots) count at none (an_instance there made has) e n l = absurd (none (subst (λ (x : ClassId). has_instances p x ≡ true) (same_Some c k e) has))
 row-slot p k is (Array element slots) count at none kind e n l = absurd cc
@@ -56,7 +56,7 @@ row-slot p k is (Builder units) count at none kind e n l = other-class builder_c
 row-slot p k is (Row c slots) count at none kind e n l = alike-at (row_type c) slots at (omega (arith, n)) ∙ ap (λ (x : ClassId). Some (row_type x)) (same_Some c k e)
 row-slot p k is (Cap device c) count at none (a_capability there device_is) e n l = apart (subst (λ (x : ClassId). is_device_interface x ≡ true) (same_Some c k e) device_is) is.no_device
 
-row-count : (p : CoreProgram) (k : ClassId) → RowClass k → (x : Obj) → (has_instances p k ≡ true → ⊥) → IsObject p x → class_in (Some x) ≡ Some k →
+row-count : (p : CoreProgram) (k : ClassId) → RowClass k → (x : Obj) → ¬ (has_instances p k ≡ true) → IsObject p x → class_in (Some x) ≡ Some k →
     (count_in (Some x) ≡ Some (length (slots_of x))) × (type_in (Some x) ≡ Some (class_type k))
 row-count p k is (Instance c slots) none (an_instance there made has) e = absurd (none (subst (λ (x : ClassId). has_instances p x ≡ true) (same_Some c k e) has))
 row-count p k is (Array element slots) none kind e = absurd cc

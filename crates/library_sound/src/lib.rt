@@ -1,12 +1,12 @@
-//! The library's part of type soundness: a tame member of the library that can run gives what it is declared to give, or
-//! throws, on a receiver and arguments that fit it; it never comes to `Wrong`. Definitions and laws alone.
+//! The library's part of type soundness: a tame member of the library that can run gives what it is declared to give,
+//! or throws, on a receiver and arguments that fit it; it never comes to `Wrong`. Definitions and laws alone.
 //!
 //! - `specs/Laws.antt`: which members are tame, when a program comes to no others, and the laws.
 //!
-//! Proofs go by the members: what arguments come to (`proofs/Arguments.antt`), what receivers hold (`Holders.antt`), each
-//! member of a class (`Texts.antt`, `Builders.antt`, `Numbers.antt`, `RowObjects.antt`, `Throwables.antt`), then the classes
-//! in the order of the table (`Classes.antt`, `Members.antt`), and what a program comes
-//! to (`Reached.antt`).
+//! Proofs go by the members: what arguments come to (`proofs/Arguments.antt`), what receivers hold (`Holders.antt`),
+//! each member of a class (`Texts.antt`, `Builders.antt`, `Numbers.antt`, `RowObjects.antt`, `Throwables.antt`), then
+//! the classes in the order of the table (`Classes.antt`, `Members.antt`), and what a program comes to
+//! (`Reached.antt`).
 #![tactic(auto)]
 
 ghost use Rattle.library_sound.specs.Laws.{MakersAreSafe, MembersAreSafe, OthersAreTame, PlainIsAllowed, TameIsSafe};

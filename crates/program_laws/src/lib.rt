@@ -1,12 +1,13 @@
 //! What is elaborated fits: of each part of an elaborated program the law that it fits, and of the whole
 //! (`specs/Laws.antt`).
 //!
-//! What the laws ask beside that has a record each (`specs/Premises.antt`), which is to be met where an elaboration cites
-//! the laws. `SourceIsSound` puts together the premises of `elaborated_laws` and `judged_laws`. Of `BodiesStand`,
-//! scopes give `scope` (`scope_laws`), and the walk over bodies gives what is met in them (`body_typing`). Of `PartsStand`,
-//! headers and signatures give what it asks of headers, constants and methods (`signature_typing`, `override_laws`), and the
-//! walk over bodies the types of locals. `ImplementationsAgree` asks of bridges to inherited methods what headers without
-//! fault don't say of every class. That the classes of the library fit is proved (`library_fits`).
+//! What the laws ask beside that has a record each (`specs/Premises.antt`), which is to be met where an elaboration
+//! cites the laws. `SourceIsSound` puts together the premises of `elaborated_laws` and `judged_laws`. Of
+//! `BodiesStand`, scopes give `scope` (`scope_laws`), and the walk over bodies gives what is met in them
+//! (`body_typing`). Of `PartsStand`, headers and signatures give what it asks of headers, constants and methods
+//! (`signature_typing`, `override_laws`), and the walk over bodies the types of locals. `ImplementationsAgree` asks
+//! of bridges to inherited methods what headers without fault don't say of every class. That the classes of the
+//! library fit is proved (`library_fits`).
 //!
 //! The crate has no code: each function states a law of `class_typing`.
 #![tactic(auto)]
