@@ -1,6 +1,6 @@
 -- Each member of each class is safe, or wild, or abstract; so each tame one that can run is safe.
 use Rattle.std.proofs.Common.{◌≡◌, ◌+◌, ◌≤◌, ◌<◌, ℕ, List, [], ◌∷◌, length, Some, None, refl, sym, ap, subst, ◌∙◌, inl, inr, arith}
-use Rattle.std.specs.Prelude.{Bool, true, false, ◌&&◌, ◌⊎◌, slice_get, get_or, codes}
+use Rattle.std.specs.Prelude.{true, false, ◌⊎◌, slice_get, get_or, codes}
 use Rattle.std.proofs.lemmas.Bool.Decides.{nat_tests}
 use Rattle.std.proofs.lemmas.Option.{slice_get_cases}
 use Rattle.je_base.specs.declared.span.NameId.{NameId}
@@ -17,6 +17,7 @@ use Rattle.je_table.specs.Rows.{row_of}
 use Rattle.je_classes.specs.Hierarchy.{library_class}
 use Rattle.je_classes.specs.Laws.{SubtypesAreDecided}
 use Rattle.je_classes.specs.Members.{methods_in}
+use Rattle.je_fitting.proofs.Booleans.{both}
 use Rattle.je_java.specs.LibraryClasses.{string_class}
 use Rattle.je_java.specs.LibraryMembers.{has_own_makers, member_of_class, member_row}
 use Rattle.je_java.specs.library.Throwables.{refused_class, throwable_class, throwable_member}
@@ -59,9 +60,6 @@ record IsException (number : List ℕ → NameId) (n : ℕ) (c : LibraryClass) :
 count : (number : List ℕ → NameId) → length (all_due number) ≡ 39
 unfolding all_due
 count number = refl
-
-and-true : {a b : Bool} → a ≡ true → b ≡ true → (a && b) ≡ true
-and-true e f = rw (e, f) refl
 
 module _ (S : Setting) (fit : Known S.program) where
   of-exception : (n : ℕ) (c : LibraryClass) → IsException fit.library.number n c → Members S fit.library.number n c
@@ -258,7 +256,7 @@ members_are_safe decided setting f class at m of tame which = by (case-of settin
     by : Case setting fit.library.number class at m → MemberIsSafe setting class at m
     by (member row handed safe) = safe
     by (method row word is safe) = safe
-    by (maker row own name safe) = apart (and-true own (constructor-named setting.program fit.library m name)) which
+    by (maker row own name safe) = apart (both own (constructor-named setting.program fit.library m name)) which
     by (wild e is word w) = wild-or-tame class at tame e
     by (abstract e) = apart e of.concrete
 

@@ -2,6 +2,7 @@
 use Rattle.std.proofs.Common.{◌≡◌, ◌+◌, ℕ, suc, List, [], ◌∷◌, Option, Some, None, refl, sym, ap, subst, ◌∙◌, arith}
 use Rattle.std.specs.Prelude.{Bool, true, false, not, ◌||◌, slice_get, if◌then◌else◌}
 use Rattle.std.specs.List.{list_all}
+use Rattle.std.proofs.lemmas.Bool.{or_left, or_right}
 use Rattle.std.proofs.lemmas.Option.{same_Some}
 use Rattle.je_base.specs.declared.span.NameId.{NameId}
 use Rattle.je_core.specs.declared.types.ClassId.{ClassId}
@@ -39,13 +40,6 @@ use Rattle.library_sound.specs.Laws.{IsTame, IsTameMember, OthersAreTame, TameIs
 use Rattle.library_sound.proofs.Cases.{Case, abstract, is_tame_in, maker, member, method, wild}
 use Rattle.library_sound.proofs.Members.{case-of, makers_are_safe, members_are_safe}
 use Rattle.library_sound.proofs.Throwables.{below-throwable, climbs}
-
-or-left : {a : Bool} (b : Bool) → a ≡ true → (a || b) ≡ true
-or-left b e = rw e refl
-
-or-right : (a : Bool) {b : Bool} → b ≡ true → (a || b) ≡ true
-or-right true e = refl
-or-right false e = e
 
 -- ---- constructors are tame
 
@@ -145,8 +139,8 @@ module _ (S : Setting) (fit : Known S.program) where
 
       by : (same_class k object_class || same_class k token_class || climbs fit.library.number 5 k) ≡ true → has_instances S.program k ≡ true
       by h = either-way (same_class k object_class || same_class k token_class) (climbs fit.library.number 5 k) h
-          (λ q. either-way (same_class k object_class) (same_class k token_class) q (λ z. or-left _ (or-left _ (or-right (is_guest k) z))) (λ z. or-left _ (or-right (is_guest k || same_class k object_class) z)))
-          (λ q. or-right (is_guest k || same_class k object_class || same_class k token_class) (below-from S.program (below-throwable S.program fit 5 k q)))
+          (λ q. either-way (same_class k object_class) (same_class k token_class) q (λ z. or_left _ _ (or_left _ _ (or_right (is_guest k) _ z))) (λ z. or_left _ _ (or_right (is_guest k || same_class k object_class) _ z)))
+          (λ q. or_right (is_guest k || same_class k object_class || same_class k token_class) _ (below-from S.program (below-throwable S.program fit 5 k q)))
 
   -- ---- the superclass of a guest
 
