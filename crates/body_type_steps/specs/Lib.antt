@@ -1,1 +1,2 @@
 pub mod way
+pub mod Variables

@@ -6,16 +6,15 @@ ghost use Rattle.je_ast.specs.Types.{class_type, name_view, no_types, primitive 
 ghost use Rattle.je_typing.specs.Answers.{IsFault};
 ghost use Rattle.je_typing.specs.Judged.{gives};
 ghost use Rattle.name_types.specs.View.{shown};
-ghost use Rattle.body_places.specs.Places.{frame_seen};
-ghost use Rattle.body_places.specs.View.{program_seen};
+ghost use Rattle.name_steps.specs.Places.{frame_seen, program_seen};
 
 use crate::meaning::body_meaning;
 use crate::named::{accessible_type, base_of_look, is_type};
 use crate::written::primitive_type;
-use body_places::{Frame, Program};
 use je_ast::{Name, TyName};
 use je_base::Span;
 use je_typing::{Refusal, TypeRule, check};
+use name_steps::{Frame, Program};
 use name_types::SrcTy;
 
 /// The type of a cast, of `instanceof`, or of the elements of a new array.

@@ -13,16 +13,15 @@ ghost use Rattle.name_lookup.specs.View.{look_view};
 ghost use Rattle.name_types.specs.View.{shown};
 ghost use Rattle.name_typing.specs.Instances.{outer_this as the_outer_this};
 ghost use Rattle.typed_nodes.specs.Seen.{seen};
-ghost use Rattle.body_places.specs.Places.{place_seen};
-ghost use Rattle.body_places.specs.View.{program_seen};
+ghost use Rattle.name_steps.specs.Places.{place_seen, program_seen};
 
 use crate::meaning::body_meaning;
-use body_places::{Place, Program, outer_this};
 use je_ast::{Name, TyName};
 use je_base::{Memory, Span};
 use je_core::ClassId;
 use je_typing::{Refusal, TypeFault, TypeRule};
 use name_lookup::{Look, Part, Place as NamePlace};
+use name_steps::{Place, Program, outer_this};
 use name_types::{SrcTy, source_type};
 use type_faults::Program as Source;
 use typed_nodes::TypedExpr;

@@ -15,4 +15,5 @@ mod written;
 pub use bare::{bare_class_type, bare_type};
 pub use enclosing::{anonymous_type, outer};
 pub use meaning::body_meaning;
+pub use name_steps::{Variable, typed_local, variable_named};
 pub use written::body_type;

@@ -3,14 +3,12 @@
 ghost use Rattle.std.specs.Prelude.{◌≡◌, IfOk};
 ghost use Rattle.body_types.specs.BodyTypes.{classes_at, look_at};
 ghost use Rattle.name_lookup.specs.View.{look_view, numbers};
-ghost use Rattle.body_places.specs.Places.{frame_seen};
-ghost use Rattle.body_places.specs.View.{program_seen};
+ghost use Rattle.name_steps.specs.Places.{frame_seen, program_seen};
 
-use body_places::{Frame, Program};
 use je_ast::Identifier;
 use je_base::Memory;
 use name_lookup::{Look, Meaning};
-use name_steps::class_named;
+use name_steps::{Frame, Program, class_named};
 use type_faults::Program as Source;
 
 /// What the parts of a name mean in a body, and the classes that they name: the first part is a class in scope there,

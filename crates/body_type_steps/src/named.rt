@@ -11,15 +11,14 @@ ghost use Rattle.je_typing.specs.Judged.{gives};
 ghost use Rattle.name_lookup.specs.View.{look_view, numbers};
 ghost use Rattle.name_typing.specs.Program.{Frame as TheFrame, Program as TheProgram};
 ghost use Rattle.name_types.specs.View.{all_shown, base_shown, shown};
-ghost use Rattle.body_places.specs.Places.{frame_seen};
-ghost use Rattle.body_places.specs.View.{program_seen};
+ghost use Rattle.name_steps.specs.Places.{frame_seen, program_seen};
 ghost use Rattle.body_type_steps.specs.way.Checked.{accessible_sized, sized as the_sized};
 
-use body_places::{Frame, Program};
 use je_base::Span;
 use je_core::{Base, ClassId};
 use je_typing::{Refusal, TypeRule, check};
 use name_lookup::{Look, are_accessible};
+use name_steps::{Frame, Program};
 use name_types::{SrcBase, SrcTy, arity};
 use written_types::is_in_limit;
 

@@ -7,16 +7,15 @@ ghost use Rattle.je_scopes.specs.SourceTypes.{base_of as the_base_of, plain};
 ghost use Rattle.je_typing.specs.Answers.{IsFault};
 ghost use Rattle.je_typing.specs.Judged.{gives};
 ghost use Rattle.name_types.specs.View.{all_shown, base_shown, shown};
-ghost use Rattle.body_places.specs.Places.{frame_seen};
-ghost use Rattle.body_places.specs.View.{program_seen};
+ghost use Rattle.name_steps.specs.Places.{frame_seen, program_seen};
 ghost use Rattle.body_type_steps.specs.way.Checked.{behind_arguments, sized as the_sized};
 
 use crate::meaning::body_meaning;
 use crate::named::{accessible_type, base_of_look, sized, takes};
-use body_places::{Frame, Program};
 use je_ast::{Name, Primitive, TyName};
 use je_base::Span;
 use je_typing::{Refusal, TypeRule, check};
+use name_steps::{Frame, Program};
 use name_types::{SrcBase, SrcTy, base_of};
 use written_types::bounded;
 

@@ -9,3 +9,4 @@ pub mod ForEach
 pub mod Switches
 pub mod Catches
 pub mod Statements
+pub mod Calls

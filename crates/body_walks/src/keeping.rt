@@ -3,12 +3,12 @@
 ghost use Rattle.std.specs.Prelude.{◌≡◌, IfOk, map, option_map};
 ghost use Rattle.body_places.specs.Places.{frame_seen, local_seen};
 ghost use Rattle.body_places.specs.Tables.{constant_seen};
-ghost use Rattle.body_scopes.specs.View.{scope_seen};
+ghost use Rattle.core_making.specs.Scopes.{scope_seen};
 ghost use Rattle.body_walks.specs.Standings.{standing_seen};
 
 use crate::met::Standing;
 use body_places::{Constant, Frame, LocalVariable};
-use body_scopes::Scope;
+use core_making::Scope;
 use je_base::Memory;
 use source_subtypes::copied;
 use std::alloc::Global;

@@ -13,6 +13,8 @@ mod met;
 mod walk;
 
 pub use bodies::Bodies;
+pub use body_type_steps::{anonymous_type, bare_type, body_type, outer, typed_local};
+pub use core_making::{CapturedLocal, Scope, captures_for, written_span};
 pub use keeping::{copied_frame, copied_local, standing};
 pub use met::{Met, Standing};
 pub use walk::{add_all_met, add_met};

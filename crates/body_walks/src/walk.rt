@@ -7,20 +7,19 @@ ghost use Rattle.je_scopes.specs.Settled.{parts_of};
 ghost use Rattle.body_typing.specs.Mentions.{all_mentions, made, made_with_body, named};
 ghost use Rattle.body_typing.specs.Bodies.{local_met, met_by, met_in_expression};
 ghost use Rattle.body_places.specs.View.{program_seen};
-ghost use Rattle.body_scopes.specs.View.{scope_seen};
-ghost use Rattle.name_steps.specs.Variables.{variable_seen};
+ghost use Rattle.core_making.specs.Scopes.{scope_seen};
+ghost use Rattle.body_type_steps.specs.Variables.{variable_seen};
 ghost use Rattle.body_walks.specs.Seen.{met_seen};
 
 use crate::bodies::Bodies;
 use crate::keeping::standing;
 use crate::met::Met;
 use body_places::{Program, class_outwards};
-use body_scopes::Scope;
-use body_type_steps::body_meaning;
+use body_type_steps::{Variable, body_meaning, variable_named};
+use core_making::Scope;
 use je_ast::{Expr, Identifier, TyName};
 use je_base::{Memory, Span};
 use name_lookup::Look;
-use name_steps::{Variable, variable_named};
 
 // A local of a body further out, which is no constant.
 #[tactic(auto, using(crate::proofs::Further::further))]

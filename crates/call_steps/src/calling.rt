@@ -11,21 +11,19 @@ ghost use Rattle.name_typing.specs.Accesses.{superclass_of as the_superclass_of}
 ghost use Rattle.overloads.specs.View.{candidate_seen};
 ghost use Rattle.source_subtypes.specs.View.{heads_of};
 ghost use Rattle.typed_nodes.specs.Seen.{seen};
-ghost use Rattle.body_places.specs.Places.{place_seen};
-ghost use Rattle.body_places.specs.View.{program_seen};
+ghost use Rattle.name_steps.specs.Places.{place_seen, program_seen};
 ghost use Rattle.name_steps.specs.Qualifiers.{qualifier_seen};
 ghost use Rattle.call_steps.specs.Receivers.{receiver_seen};
 
 use crate::calls::{Calls, chosen_method};
 use crate::nodes::{call_on as called_on, exact_call};
-use body_places::{Place, is_instance, this_node};
 use header_steps::own_type;
 use je_ast::Identifier;
 use je_base::Span;
 use je_core::ClassId;
 use je_typing::{Refusal, TypeFault, TypeRule, check};
 use member_values::{has_members, superclass_of};
-use name_steps::Qualifier;
+use name_steps::{Place, Qualifier, is_instance, this_node};
 use overloads::Candidate;
 use typed_nodes::TypedExpr;
 

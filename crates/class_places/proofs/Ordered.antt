@@ -13,8 +13,7 @@ use Rattle.name_typing.specs.Program.{Frame, LocalVariable, Program}
 use Rattle.body_typing.specs.Bodies.{Met}
 use Rattle.class_typing.specs.Captures.{captured_locals, captures_within, is_captured, reversed}
 use Rattle.class_typing.specs.Programs.{CapturedLocal}
-use Rattle.core_making.specs.declared.known.CapturedLocal.{CapturedLocal as Captured}
-use Rattle.core_making.specs.Known.{captured_seen, locals_in as locals_of}
+use Rattle.body_walks.specs.Known.{CapturedLocal as Captured, captured_seen, locals_in as locals_of}
 use Rattle.class_places.specs.declared.kept.Kept.{Kept}
 use Rattle.class_places.specs.way.Kept.{AreAll}
 use Rattle.class_places.specs.way.Locals.{is_kept, is_one, locals_from, locals_in, own}

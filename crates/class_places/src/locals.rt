@@ -4,14 +4,13 @@ ghost use Rattle.std.specs.Prelude.{◌≡◌, ℕ, ◌<◌, ◌++◌, IfOk, OnO
 ghost use Rattle.class_typing.specs.Captures.{captured_locals as the_captured_locals, reversed};
 ghost use Rattle.body_places.specs.Places.{frame_seen, local_seen};
 ghost use Rattle.body_places.specs.View.{program_seen};
-ghost use Rattle.core_making.specs.Known.{captured_local_seen, captured_seen, round_seen};
+ghost use Rattle.body_walks.specs.Known.{captured_local_seen, captured_seen, round_seen};
 ghost use Rattle.body_walks.specs.Seen.{met_seen};
 ghost use Rattle.class_places.specs.way.Locals.{is_kept, locals_from, own};
 
 use crate::kept::{Kept, all_kept};
 use body_places::{Frame, LocalVariable, Program};
-use body_walks::{Met, copied_local};
-use core_making::CapturedLocal;
+use body_walks::{CapturedLocal, Met, copied_local};
 use indexmap::IndexSet;
 use je_base::Memory;
 use je_core::ClassId;

@@ -41,10 +41,7 @@ use Rattle.name_typing.specs.Accesses.{found_field, static_field}
 use Rattle.name_typing.specs.Fields.{find_field}
 use Rattle.name_typing.specs.Qualified.{name_before, assigned_select, select}
 use Rattle.name_typing.specs.Variables.{variable_named, variable_node, taken, not_forward, assigned_name, updated_name, simple_name}
-use Rattle.call_typing.specs.Calls.{used}
-use Rattle.call_typing.specs.Constructors.{constructors_in, constructor_for}
-use Rattle.call_typing.specs.Creations.{anonymous_creation, own_constructor_call, superclass_constructor_call, implicit_constructor_call}
-use Rattle.call_typing.specs.Overloads.{choice, chosen}
+use Rattle.body_typing.specs.Calls.{anonymous_creation, choice, chosen, constructor_for, constructors_in, implicit_constructor_call, own_constructor_call, superclass_constructor_call, used}
 use Rattle.signature_typing.specs.Signatures.{class_signatures, signatures}
 use Rattle.library_classes.specs.Library.{rows, all_due}
 use Rattle.library_declarations.specs.Library.{library_declared}

@@ -12,7 +12,7 @@ use Rattle.source_types.specs.Erasure.{class_numbered}
 use Rattle.source_types.specs.Heads.{supers_of}
 use Rattle.header_typing.specs.Supers.{class_in}
 use Rattle.name_typing.specs.Program.{Frame, Place, Program, frames}
-use Rattle.call_typing.specs.Creations.{is_inner, is_round}
+use Rattle.body_typing.specs.Calls.{is_inner, is_round}
 use Rattle.body_typing.specs.Bodies.{Met, makes}
 use Rattle.body_typing.specs.Bodies as met_in
 use Rattle.class_typing.specs.Places.{same_number}

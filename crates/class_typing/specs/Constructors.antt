@@ -21,9 +21,7 @@ use Rattle.je_typing.specs.Typed.{TypedNode}
 use Rattle.overriding.specs.Methods.{methods_in}
 use Rattle.name_typing.specs.Instances.{this_node}
 use Rattle.name_typing.specs.Program.{Place, Program}
-use Rattle.call_typing.specs.Constructors.{constructor_for}
-use Rattle.call_typing.specs.Creations.{implicit_constructor_call, made_of, own_constructor_call, superclass_constructor_call}
-use Rattle.call_typing.specs.Overloads.{Candidate}
+use Rattle.body_typing.specs.Calls.{Candidate, constructor_for, implicit_constructor_call, made_of, own_constructor_call, superclass_constructor_call}
 use Rattle.body_typing.specs.Expressions.{Known, anonymous_type, values}
 use Rattle.body_typing.specs.FinalVariables.{Scope}
 use Rattle.body_typing.specs.Mentions.{all_mentions}

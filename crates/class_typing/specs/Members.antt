@@ -33,9 +33,7 @@ use Rattle.name_typing.specs.Fields.{field_at, member}
 use Rattle.name_typing.specs.Instances.{this_node}
 use Rattle.name_typing.specs.Program.{Constant, Frame, Initializer, Program}
 use Rattle.name_typing.specs.Variables.{constant_form}
-use Rattle.call_typing.specs.Constructors.{access_in, constructors_of, default_flags}
-use Rattle.call_typing.specs.Creations.{implicit_constructor_call}
-use Rattle.call_typing.specs.Overloads.{Candidate}
+use Rattle.body_typing.specs.Calls.{Candidate, access_in, constructors_of, default_flags, implicit_constructor_call}
 use Rattle.statement_steps.specs.Returns.{Returning, a_value, never, no_value}
 use Rattle.body_typing.specs.ConstantVariables.{variable_constant}
 use Rattle.body_typing.specs.Expressions.{Known, expression, initial, value}

@@ -1,3 +1,4 @@
 pub mod Known
 pub mod way
 pub mod Parts
+pub mod Scopes

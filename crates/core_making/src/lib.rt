@@ -16,6 +16,7 @@ mod program_classes;
 mod ways;
 mod written;
 
+pub use body_scopes::Scope;
 pub use capturing::captures_for;
 pub use classes::{core_class, counted};
 pub use known::{CapturedLocal, Known};

@@ -7,5 +7,9 @@
 mod creating;
 mod heads;
 
+pub use call_steps::{
+    CreationSpans, call_on, chosen_constructor, default_constructor, made_of, receiver_of,
+    simple_call, super_call, used,
+};
 pub use creating::{anonymous_creation, creation};
 pub use heads::{implicit_constructor_call, own_constructor_call, superclass_constructor_call};

@@ -5,9 +5,8 @@ use Rattle.name_typing.specs.Program.{Frame, Program}
 use Rattle.body_typing.specs.Expressions.{Known}
 use Rattle.class_typing.specs.Members as words
 use Rattle.body_places.specs.Places.{frame_seen}
-use Rattle.body_walks.specs.Walks.{known_in, program_in}
+use Rattle.statement_forms.specs.Bodies.{known_in, met_seen, program_in}
 use Rattle.member_forms.specs.Calls.{own_call_seen}
-use Rattle.body_walks.specs.Seen.{met_seen}
 use Rattle.member_forms.specs.declared.done.MembersDone.{MembersDone}
 use Rattle.member_forms.specs.declared.walk.ClassWalk.{ClassWalk}
 

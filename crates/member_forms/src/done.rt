@@ -4,13 +4,13 @@ ghost use Rattle.std.specs.Prelude.{◌≡◌, ◌∷◌, [], IfOk, OnOk, map};
 ghost use Rattle.je_core.specs.View.{initializer_view, method_view};
 ghost use Rattle.class_typing.specs.Members.{followed_by, nothing as the_nothing};
 ghost use Rattle.member_forms.specs.Calls.{own_call_seen};
-ghost use Rattle.body_walks.specs.Seen.{met_seen};
+ghost use Rattle.statement_forms.specs.Bodies.{met_seen};
 ghost use Rattle.member_forms.specs.Seen.{members_seen};
 
 use crate::cycles::OwnCall;
-use body_walks::Met;
 use je_base::Memory;
 use je_core::{Expr, Initializer, Method};
+use statement_forms::Met;
 use std::alloc::Global;
 
 /// What members come to, in their order.

@@ -22,6 +22,7 @@ mod walk;
 
 pub use constructors::{ConstructorHead, constructor_call, constructor_code};
 pub use counting::{declared_at, fields_behind, methods_behind, next};
+pub use creation_steps::implicit_constructor_call;
 pub use cycles::{OwnCall, no_cycle};
 pub use done::{MembersDone, follow, nothing};
 pub use fields::{initialized, uninitialized};
@@ -29,6 +30,9 @@ pub use initializers::{initializer_code, initializer_scope};
 pub use methods::method_code;
 pub use parameters::{add_parameters, nothing_met, returning_of};
 pub use scopes::{class_span, context_of, field_scope, number, scope_in};
+pub use statement_forms::{
+    Bodies, Done, Met, Progress, Standing, Walk, add_all_met, block_of, variable_constant,
+};
 pub use unwritten::{
     anonymous_code, chosen_for, default_constructor, is_without_constructor, scope_at,
 };

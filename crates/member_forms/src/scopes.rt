@@ -10,9 +10,9 @@ ghost use Rattle.member_forms.specs.Walks.{class_span as the_class_span, field_s
 use crate::walk::{ClassWalk, alloc};
 use body_places::{Frame, Initializer};
 use body_scopes::Scope;
-use core_making::written_span;
 use je_base::{NameId, Span};
 use name_walk::Context;
+use statement_forms::written_span;
 use word_numbers::number as number_in;
 
 /// The number of a word, the first one where it has none.

@@ -17,7 +17,7 @@ ghost use Rattle.overloads.specs.View.{candidate_seen};
 ghost use Rattle.class_typing.specs.Constructors.{declared_parameters as the_declared_parameters, locals_from as the_locals_from, unnamed_local, unwritten_constructor as constructor_named};
 ghost use Rattle.class_typing.specs.Members.{nothing as the_nothing};
 ghost use Rattle.body_scopes.specs.View.{scope_seen};
-ghost use Rattle.body_walks.specs.Standings.{standing_seen};
+ghost use Rattle.statement_forms.specs.Bodies.{standing_seen};
 ghost use Rattle.member_forms.specs.Seen.{members_seen, program_of};
 ghost use Rattle.member_forms.specs.Walks.{anonymous_code as the_anonymous_code, chosen_by, default_code as the_default_code, default_constructor as the_default_constructor, is_without_constructor as the_is_without_constructor};
 ghost use Rattle.member_forms.specs.way.Unwritten.{handed_to, is_constructor, unwritten_constructor as the_unwritten_constructor};
@@ -29,10 +29,10 @@ use crate::scopes::{class_span, number, scope_in};
 use crate::walk::{ClassWalk, alloc};
 use body_places::this_node;
 use body_scopes::Scope;
-use body_type_steps::anonymous_type;
-use body_walks::{Standing, copied_frame};
-use call_steps::{chosen_constructor, default_constructor as default_candidate, made_of};
-use creation_steps::implicit_constructor_call;
+use creation_steps::{
+    chosen_constructor, default_constructor as default_candidate, implicit_constructor_call,
+    made_of,
+};
 use declarations::MethodDecl;
 use fit_parts::of;
 use je_ast::TyName;
@@ -45,7 +45,7 @@ use je_typing::Refusal;
 use name_types::SrcTy;
 use name_walk::Context;
 use overloads::Candidate;
-use statement_forms::{parts, performed};
+use statement_forms::{Standing, anonymous_type, copied_frame, parts, performed};
 use std::alloc::Global;
 use std::rc::Rc;
 use typed_nodes::TypedExpr;

@@ -4,9 +4,9 @@ ghost use Rattle.std.specs.Prelude.{◌≡◌};
 ghost use Rattle.name_sites.specs.View.{source_of};
 
 use body_places::Frame;
-use body_walks::Bodies;
 use je_base::Names;
 use je_core::ClassId;
+use statement_forms::Bodies;
 use std::alloc::Global;
 
 /// A class whose members are judged, the bodies round it, the innermost first, and the names of the program.

@@ -1,3 +1,4 @@
 pub mod way
 pub mod Variables
 pub mod Qualifiers
+pub mod Places

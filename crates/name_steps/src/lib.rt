@@ -18,6 +18,10 @@ mod variables;
 
 pub use accesses::super_field;
 pub use before::{name_before, select_before};
+pub use body_places::{
+    Frame, Place, Program, class_outwards, has_instance, instance_node, is_instance, outer_this,
+    this_node,
+};
 pub use classes::class_named;
 pub use finding::{Variable, variable_named};
 pub use last::{assigned_select, select};

@@ -1,3 +1,4 @@
 pub mod way
 pub mod Counts
 pub mod Library
+pub mod Known

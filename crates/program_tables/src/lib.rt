@@ -27,6 +27,7 @@ mod units;
 
 pub use code::enum_code;
 pub use constant_listing::constant_names;
+pub use core_making::{CapturedLocal, Known, Making, Parts, core_class, counted};
 pub use enums::add_enum_methods;
 pub use layout::{Layout, library_comes_first};
 pub use listing::{add_hidden_fields, hidden_counts, remove_hidden_fields};

@@ -2,3 +2,4 @@ pub mod View
 pub mod way
 pub mod Seen
 pub mod Written
+pub mod Bodies

@@ -9,8 +9,7 @@ use Rattle.statement_steps.specs.Returns.{Returning}
 use Rattle.statement_steps.specs.View.{returning_seen}
 use Rattle.body_typing.specs.Bodies as bodies
 use Rattle.body_typing.specs.Statements.{GroupsDone}
-use Rattle.body_scopes.specs.View.{scope_seen}
-use Rattle.body_scopes.specs.declared.scope.Scope.{Scope}
+use Rattle.body_walks.specs.Scopes.{Scope, scope_seen}
 use Rattle.body_walks.specs.Walks.{known_in, program_in}
 use Rattle.body_walks.specs.Seen.{met_seen}
 use Rattle.statement_forms.specs.View.{group_seen}

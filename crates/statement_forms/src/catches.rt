@@ -7,12 +7,12 @@ ghost use Rattle.je_typing.specs.Answers.{IsFault};
 ghost use Rattle.je_typing.specs.Judged.{gives};
 ghost use Rattle.source_subtypes.specs.View.{heads_of};
 ghost use Rattle.body_typing.specs.Catches.{clauses as the_clauses};
-ghost use Rattle.body_scopes.specs.View.{scope_seen};
+ghost use Rattle.body_walks.specs.Scopes.{scope_seen};
 ghost use Rattle.statement_forms.specs.View.{clause_seen};
 ghost use Rattle.statement_forms.specs.way.Clauses.{clause as the_clause};
 
 use crate::local_variables::new_name;
-use body_scopes::Scope;
+use body_walks::Scope;
 use je_ast::Identifier;
 use je_base::Span;
 use je_core::{Catch, Stmt, make_catch};

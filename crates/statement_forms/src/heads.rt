@@ -8,14 +8,14 @@ ghost use Rattle.source_subtypes.specs.View.{heads_of};
 ghost use Rattle.body_typing.specs.Bodies.{local_of as the_local_of, with_local, with_number};
 ghost use Rattle.body_typing.specs.Statements.{with_hidden};
 ghost use Rattle.typed_nodes.specs.Seen.{seen};
-ghost use Rattle.body_scopes.specs.View.{scope_seen};
+ghost use Rattle.body_walks.specs.Scopes.{scope_seen};
 ghost use Rattle.statement_forms.specs.Seen.{known_of, program_of, progress_seen, returning_of};
 
 use crate::locals::local_of;
 use crate::loops::add_hidden;
 use crate::progress::{Progress, add_number};
 use crate::walk::{Walk, alloc};
-use body_scopes::Scope;
+use body_walks::Scope;
 use je_ast::{Expr, Identifier, TyName};
 use je_base::{Memory, Span};
 use name_types::SrcTy;

@@ -23,6 +23,10 @@ mod switches;
 mod switching;
 mod walk;
 
+pub use body_walks::{
+    Bodies, Met, Standing, add_all_met, add_met, anonymous_type, copied_frame, standing,
+    written_span,
+};
 pub use catches::{Clause, clauses};
 pub use constants::variable_constant;
 pub use done::{Done, alone, block_of, follow, nothing, one, parts, performed};

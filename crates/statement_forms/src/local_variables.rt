@@ -11,15 +11,14 @@ ghost use Rattle.source_subtypes.specs.View.{heads_of};
 ghost use Rattle.body_typing.specs.LocalVariables.{new_name as the_new_name};
 ghost use Rattle.body_places.specs.Places.{local_seen};
 ghost use Rattle.body_places.specs.View.{program_seen};
-ghost use Rattle.body_scopes.specs.View.{scope_seen};
+ghost use Rattle.body_walks.specs.Scopes.{scope_seen};
 
 use body_places::{LocalVariable, Program};
-use body_scopes::Scope;
+use body_walks::{Scope, typed_local};
 use je_ast::Identifier;
 use je_base::{Memory, Span};
 use je_core::Expr;
 use je_typing::{Refusal, TypeRule, check};
-use name_steps::typed_local;
 use operator_steps::typed_assignment;
 
 /// Nothing where no other local of the name is in scope in its body, else LocalTwice, at the name.

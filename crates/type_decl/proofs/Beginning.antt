@@ -19,8 +19,7 @@ use Rattle.signature_typing.specs.Signatures.{Setting, signatures}
 use Rattle.class_typing.specs.Elaboration.{constants_first, first_program, first_world, hidden_count, is_constant, setting}
 use Rattle.class_typing.specs.Programs.{CapturedLocal, classes, heads, plain_program, with_hidden}
 use Rattle.field_values.specs.Values.{count_at}
-use Rattle.core_making.specs.declared.known.CapturedLocal.{CapturedLocal as HeldLocal}
-use Rattle.core_making.specs.Known.{captured_local_seen, captured_seen}
+use Rattle.program_tables.specs.Known.{CapturedLocal as HeldLocal, captured_local_seen, captured_seen}
 use Rattle.class_heads.specs.View.{classes_of}
 use Rattle.call_steps.specs.TableView.{HasMethods}
 use Rattle.call_steps.specs.declared.table.MethodTable.{MethodTable}

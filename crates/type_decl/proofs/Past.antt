@@ -11,7 +11,7 @@ use Rattle.name_typing.specs.Program as program
 use Rattle.body_typing.specs.Bodies.{Met}
 use Rattle.body_places.specs.declared.place.Frame.{Frame}
 use Rattle.body_scopes.specs.View.{is_set}
-use Rattle.core_making.specs.Known.{frames_in, round_seen}
+use Rattle.program_tables.specs.Known.{frames_in, round_seen}
 use Rattle.class_typing.specs.Places.{in_body, innermost_in_body, is_placed, met_at, round_met, round_without_locals}
 use Rattle.type_decl.specs.way.Asked.{is_asked}
 

@@ -9,11 +9,10 @@ use Rattle.je_typing.specs.Judged.{Judged, gives, faulty, bind}
 use Rattle.je_typing.proofs.Walks.{bind_faults, bind_gives}
 use Rattle.name_typing.specs.Program.{Constant}
 use Rattle.body_typing.specs.Bodies.{Met}
-use Rattle.body_walks.specs.Walks.{known_in, program_in}
+use Rattle.member_forms.specs.Bodies.{known_in, program_in}
 use Rattle.body_places.specs.Tables.{constant_at}
 use Rattle.body_scopes.specs.View.{blank_seen}
-use Rattle.core_making.specs.Known.{captured_seen, known_seen, round_seen}
-use Rattle.core_making.specs.declared.known.Known.{Known}
+use Rattle.program_tables.specs.Known.{Known, captured_seen, known_seen, round_seen}
 use Rattle.name_typing.specs.Program.{Program}
 use Rattle.field_values.specs.Values.{count_at}
 use Rattle.class_typing.specs.Captures.{captures}

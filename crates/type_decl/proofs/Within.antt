@@ -7,7 +7,7 @@ use Rattle.je_classes.proofs.Lists.{bool_cases}
 use Rattle.declarations.specs.Declarations.{DeclaredField}
 use Rattle.name_typing.specs.Fields.{field_at}
 use Rattle.name_typing.specs.Program.{Constant, Program}
-use Rattle.core_making.specs.Known.{round_seen}
+use Rattle.program_tables.specs.Known.{round_seen}
 use Rattle.class_typing.specs.ConstantFields.{constant_by, constant_next, constants_of, constants_within, field_value}
 use Rattle.class_typing.specs.ConstantFields as words
 use Rattle.field_values.specs.Values.{value_at}

@@ -11,13 +11,13 @@ use Rattle.body_typing.specs.Bodies.{Met}
 use Rattle.declarations.specs.Declarations.{DeclaredClass}
 use Rattle.source_types.specs.Heads.{ClassHead}
 use Rattle.body_scopes.specs.View.{blank_seen}
-use Rattle.body_walks.specs.Walks.{HasAllMethods, program_in}
+use Rattle.member_forms.specs.Bodies.{HasAllMethods, program_in}
 use Rattle.class_heads.specs.View.{classes_of}
 use Rattle.class_methods.specs.HierarchyView.{HasAll}
 use Rattle.class_methods.specs.declared.hierarchy.Hierarchy.{Hierarchy}
 use Rattle.source_subtypes.specs.View.{heads_of}
 use Rattle.field_values.specs.Values.{count_at}
-use Rattle.core_making.specs.Known.{known_seen, round_seen}
+use Rattle.program_tables.specs.Known.{known_seen, round_seen}
 use Rattle.class_typing.specs.Captures.{captures}
 use Rattle.class_typing.specs.ConstantFields.{constants_shifted, is_blank}
 use Rattle.class_typing.specs.Elaboration.{BodiesMet, captured_count, core_classes, guest_count, hidden_count, whole_program, whole_world}

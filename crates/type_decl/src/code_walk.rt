@@ -6,12 +6,11 @@ ghost use Rattle.declarations.specs.View.{field_shown};
 ghost use Rattle.je_core.specs.View.{class_view};
 ghost use Rattle.je_typing.specs.Answers.{IsFault};
 ghost use Rattle.je_typing.specs.Judged.{gives};
-ghost use Rattle.body_walks.specs.Walks.{program_in};
+ghost use Rattle.member_forms.specs.Bodies.{met_seen, program_in};
 ghost use Rattle.class_typing.specs.Classes.{core_class as the_core_class, written_fields as the_written_fields};
 ghost use Rattle.class_typing.specs.Elaboration.{core_classes as the_core_classes, guest_count};
 ghost use Rattle.class_typing.specs.Programs.{library_count};
-ghost use Rattle.core_making.specs.Known.{captured_local_seen};
-ghost use Rattle.body_walks.specs.Seen.{met_seen};
+ghost use Rattle.program_tables.specs.Known.{captured_local_seen};
 ghost use Rattle.member_forms.specs.Seen.{members_seen};
 ghost use Rattle.type_decl.specs.way.Seen.{ArePlaced, IsWhole, captured_of, world_of};
 ghost use Rattle.type_decl.specs.way.Walked.{made as the_made};
@@ -21,7 +20,6 @@ use crate::walk::{AllMet, Walk, alloc};
 use body_places::fields_of;
 use class_bridges::bridges;
 use class_methods::Hierarchy;
-use core_making::{CapturedLocal, Making, Parts, core_class, counted};
 use declarations::FieldDecl;
 use field_values::count_of;
 use je_base::Memory;
@@ -29,6 +27,7 @@ use je_core::{Class, ClassId};
 use je_typing::Refusal;
 use member_forms::MembersDone;
 use name_sites::Sites;
+use program_tables::{CapturedLocal, Making, Parts, core_class, counted};
 
 /// What the second walk goes by: the classes of a program, of which it is known what they capture, what they have of
 /// methods, and the number in the binary name of each.

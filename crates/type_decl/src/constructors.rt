@@ -6,7 +6,7 @@ ghost use Rattle.je_ast.specs.View.{constructor_invocation_view, statement_views
 ghost use Rattle.declarations.specs.View.{method_shown};
 ghost use Rattle.je_typing.specs.Answers.{IsFault};
 ghost use Rattle.je_typing.specs.Judged.{gives};
-ghost use Rattle.body_walks.specs.Walks.{HasAllMethods};
+ghost use Rattle.member_forms.specs.Bodies.{HasAllMethods};
 ghost use Rattle.member_forms.specs.Seen.{members_seen};
 ghost use Rattle.type_decl.specs.way.Walks.{constructor as the_constructor};
 

@@ -5,7 +5,7 @@ ghost use Rattle.je_ast.specs.View.{variable_views_of, view as tree_of, view_of_
 ghost use Rattle.declarations.specs.View.{field_shown};
 ghost use Rattle.je_typing.specs.Answers.{IsFault};
 ghost use Rattle.je_typing.specs.Judged.{gives};
-ghost use Rattle.body_walks.specs.Walks.{HasAllMethods};
+ghost use Rattle.member_forms.specs.Bodies.{HasAllMethods};
 ghost use Rattle.typed_nodes.specs.Seen.{seen};
 ghost use Rattle.member_forms.specs.Seen.{members_seen};
 ghost use Rattle.type_decl.specs.way.Walks.{initial_value as the_initial_value, initialized as the_initialized, variable as the_variable, variables as the_variables};
@@ -17,7 +17,7 @@ use je_typing::Refusal;
 use member_forms::{
     ClassWalk, MembersDone, alloc, field_scope, follow, initialized, next, nothing, uninitialized,
 };
-use type_expr::{Purpose, value};
+use type_statements::{Purpose, value};
 use typed_nodes::TypedExpr;
 
 // The value of an initializer.

@@ -11,10 +11,10 @@ ghost use Rattle.declarations.specs.View.{class_shown};
 ghost use Rattle.je_core.specs.View.{class_view};
 ghost use Rattle.je_typing.specs.Answers.{IsFault};
 ghost use Rattle.je_typing.specs.Judged.{gives};
-ghost use Rattle.core_making.specs.Known.{captured_seen};
+ghost use Rattle.program_tables.specs.Known.{captured_seen};
 ghost use Rattle.library_classes.specs.Library.{all_due};
 ghost use Rattle.library_classes.specs.Numbers.{number_in};
-ghost use Rattle.body_walks.specs.Seen.{met_seen};
+ghost use Rattle.member_forms.specs.Bodies.{met_seen};
 ghost use Rattle.call_steps.specs.TableView.{HasMethods};
 ghost use Rattle.signature_steps.specs.View.{is_among};
 ghost use Rattle.source_subtypes.specs.View.{heads_of};
@@ -28,18 +28,18 @@ use crate::meeting_walk::first_bodies;
 use crate::told::{FirstWalk, all_rounds, constants_before};
 use crate::walk::{BodiesMet, Walk};
 use body_places::{Captured, Constant};
-use body_walks::Bodies;
 use call_steps::{Calls, MethodTable};
 use class_heads::AllClasses;
 use class_places::captured_locals;
-use core_making::{CapturedLocal, Known};
 use declarations::ClassDecl;
 use je_base::Memory;
 use je_core::Class;
 use je_typing::Refusal;
+use member_forms::Bodies;
 use name_sites::Sites;
 use program_tables::{
-    Layout, add_hidden_fields, captured_fields, constant_names, plain_program, remove_hidden_fields,
+    CapturedLocal, Known, Layout, add_hidden_fields, captured_fields, constant_names,
+    plain_program, remove_hidden_fields,
 };
 use signature_steps::{ConstantField, Setting, judge_signatures};
 use written_types::Surroundings;

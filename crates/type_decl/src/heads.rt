@@ -12,21 +12,20 @@ ghost use Rattle.body_typing.specs.Bodies.{met_by, with_met};
 ghost use Rattle.class_typing.specs.Captures.{listed};
 ghost use Rattle.class_typing.specs.Constructors.{head_call as the_head_call, in_arguments, met_in_head};
 ghost use Rattle.body_scopes.specs.View.{scope_seen};
-ghost use Rattle.body_walks.specs.Walks.{HasAllMethods};
-ghost use Rattle.statement_forms.specs.Seen.{progress_seen};
+ghost use Rattle.member_forms.specs.Bodies.{HasAllMethods};
+ghost use Rattle.member_forms.specs.Statements.{progress_seen};
 ghost use Rattle.member_forms.specs.Seen.{known_of, program_of};
 ghost use Rattle.member_forms.specs.Walks.{class_span as the_class_span};
 
 use body_scopes::Scope;
-use body_walks::add_all_met;
-use creation_steps::implicit_constructor_call;
 use je_ast::{ConstructorCall, Expr};
 use je_base::Span;
 use je_typing::Refusal;
-use member_forms::{ClassWalk, class_span, constructor_call};
+use member_forms::{
+    ClassWalk, Progress, add_all_met, class_span, constructor_call, implicit_constructor_call,
+};
 use name_walk::Context;
-use statement_forms::Progress;
-use type_expr::values;
+use type_statements::values;
 use typed_nodes::TypedExpr;
 
 // The arguments of such a call, where there is no object yet.

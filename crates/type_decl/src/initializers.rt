@@ -4,7 +4,7 @@ ghost use Rattle.std.specs.Prelude.{◌≡◌, IfErr, IfOk};
 ghost use Rattle.je_ast.specs.View.{statement_views_of};
 ghost use Rattle.je_typing.specs.Answers.{IsFault};
 ghost use Rattle.je_typing.specs.Judged.{gives};
-ghost use Rattle.body_walks.specs.Walks.{HasAllMethods};
+ghost use Rattle.member_forms.specs.Bodies.{HasAllMethods};
 ghost use Rattle.member_forms.specs.Seen.{members_seen};
 ghost use Rattle.type_decl.specs.way.Walks.{initializer as the_initializer};
 

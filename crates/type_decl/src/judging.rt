@@ -4,7 +4,7 @@ ghost use Rattle.std.specs.Prelude.{◌≡◌, ℕ, IfOk, map, option_map, slice
 ghost use Rattle.body_places.specs.Places.{frame_seen};
 ghost use Rattle.body_places.specs.Tables.{constant_at, constant_in, constant_seen};
 ghost use Rattle.body_scopes.specs.View.{scope_seen};
-ghost use Rattle.body_walks.specs.Walks.{HasAllMethods, known_in, program_in};
+ghost use Rattle.member_forms.specs.Bodies.{HasAllMethods, known_in, program_in};
 ghost use Rattle.class_typing.specs.ConstantFields.{if_final, in_initializer, nothing_known, unwritten};
 ghost use Rattle.declarations.specs.View.{field_shown};
 ghost use Rattle.body_typing.specs.Expressions.{expression, initial, value as the_value};
@@ -15,19 +15,18 @@ ghost use Rattle.type_decl.specs.way.Rows.{constant_due};
 
 use body_places::{Constant, Frame, Initializer, Program, field_at};
 use body_scopes::Scope;
-use body_walks::Bodies;
 use call_steps::Calls;
-use core_making::Known;
 use declarations::FieldDecl;
 use field_values::FieldValue;
 use je_ast::Expr;
 use je_base::Memory;
 use je_core::ClassId;
 use je_typing::Refusal;
+use member_forms::{Bodies, variable_constant};
 use name_walk::Context;
-use statement_forms::variable_constant;
+use program_tables::Known;
 use std::alloc::Global;
-use type_expr::{Purpose, value};
+use type_statements::{Purpose, value};
 
 /// The fields of all classes, by class.
 #[derive(Clone, Copy)]
@@ -51,7 +50,7 @@ pub fn asks(asked: &[bool], class: usize) -> bool
 }
 
 /// The same bodies where these fields are constants, and nothing is captured or assigned.
-#[tactic(auto, unfolding(core_making::specs::Known::known_seen))]
+#[tactic(auto, unfolding(program_tables::specs::Known::known_seen))]
 pub fn judged_by<'a>(bodies: Bodies<'a>, constants: &'a [Vec<Option<Constant>>]) -> Bodies<'a>
     ensures program { program_in result ≡
         record (program_in bodies.entry) { constants = constant_at constants.now } }

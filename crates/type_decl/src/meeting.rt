@@ -4,17 +4,17 @@ ghost use Rattle.std.specs.Prelude.{◌≡◌, ◌++◌, [], IfOk, List, is_some
 ghost use Rattle.std.specs.List.{list_any};
 ghost use Rattle.class_typing.specs.Places.{class_standing, is_placed};
 ghost use Rattle.je_scopes.specs.Sites.{Site};
-ghost use Rattle.body_walks.specs.Seen.{met_seen};
+ghost use Rattle.member_forms.specs.Bodies.{met_seen};
 ghost use Rattle.name_sites.specs.View.{source_of};
 ghost use Rattle.type_decl.specs.way.Asked.{is_asked};
 ghost use Rattle.type_decl.specs.way.Seen.{ArePlaced};
 ghost use Rattle.type_decl.specs.way.Telling.{tells as the_tells};
 
 use crate::walk::AllMet;
-use body_walks::Met;
 use class_places::{Stands, placed_by};
 use je_base::Memory;
 use je_core::ClassId;
+use member_forms::Met;
 use name_sites::Sites;
 use std::alloc::Global;
 

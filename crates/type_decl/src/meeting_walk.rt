@@ -6,7 +6,7 @@ ghost use Rattle.je_typing.specs.Answers.{IsFault};
 ghost use Rattle.je_typing.specs.Judged.{gives};
 ghost use Rattle.body_places.specs.Tables.{constant_at};
 ghost use Rattle.body_places.specs.View.{program_seen};
-ghost use Rattle.body_walks.specs.Walks.{HasAllMethods, program_in};
+ghost use Rattle.member_forms.specs.Bodies.{HasAllMethods, program_in};
 ghost use Rattle.class_typing.specs.Elaboration.{constants_first, first_bodies as the_first_bodies};
 ghost use Rattle.class_typing.specs.Programs.{library_count};
 ghost use Rattle.type_decl.specs.way.Seen.{ArePlaced, IsFirst, bodies_met_seen};
@@ -17,11 +17,10 @@ use crate::member_walk::members;
 use crate::told::{FirstWalk, behind};
 use crate::walk::{BodiesMet, Walk, alloc};
 use body_places::{Constant, Program};
-use body_walks::Bodies;
 use call_steps::Calls;
 use je_core::ClassId;
 use je_typing::Refusal;
-use member_forms::MembersDone;
+use member_forms::{Bodies, MembersDone};
 use name_sites::Sites;
 
 /// The same program where these fields are constants.
@@ -40,7 +39,7 @@ pub fn program_with<'a>(program: Program<'a>, constants: &'a [Vec<Option<Constan
 }
 
 // The first walk where these fields are constants.
-#[tactic(auto, unfolding(core_making::specs::Known::known_seen))]
+#[tactic(auto, unfolding(program_tables::specs::Known::known_seen))]
 fn walk_with<'a>(walk: &Walk<'a>, constants: &'a [Vec<Option<Constant>>]) -> Walk<'a>
     ensures program { program_in result.bodies ≡
         record (program_in walk.now.bodies) { constants = constant_at constants.now } }

@@ -4,8 +4,7 @@ ghost use Rattle.std.specs.Prelude.{◌≡◌, ◌<◌, IfErr, IfOk, length, map
 ghost use Rattle.name_sites.specs.View.{source_of};
 ghost use Rattle.je_typing.specs.Answers.{IsFault};
 ghost use Rattle.je_typing.specs.Judged.{gives};
-ghost use Rattle.body_walks.specs.Walks.{HasAllMethods, program_in};
-ghost use Rattle.body_walks.specs.Seen.{met_seen};
+ghost use Rattle.member_forms.specs.Bodies.{HasAllMethods, met_seen, program_in};
 ghost use Rattle.field_values.specs.Values.{count_at};
 ghost use Rattle.member_forms.specs.Seen.{members_seen};
 ghost use Rattle.type_decl.specs.way.Seen.{ArePlaced, members_at, world_of};

@@ -9,8 +9,7 @@ ghost use Rattle.body_typing.specs.Bodies.{Met as SeenMet};
 ghost use Rattle.class_typing.specs.Members.{class_members as the_class_members};
 ghost use Rattle.class_typing.specs.Places.{stands_at};
 ghost use Rattle.name_walk.specs.View.{written_view};
-ghost use Rattle.body_walks.specs.Walks.{HasAllMethods};
-ghost use Rattle.body_walks.specs.Seen.{met_seen};
+ghost use Rattle.member_forms.specs.Bodies.{HasAllMethods, met_seen};
 ghost use Rattle.member_forms.specs.Seen.{known_of, members_seen, program_of, round_of};
 ghost use Rattle.type_decl.specs.way.Walks.{members_from as the_members_from, one_member as the_one_member, written_of};
 ghost use Rattle.type_decl.specs.way.Unwritten.{whole_for};
@@ -20,13 +19,12 @@ use crate::fields::variables;
 use crate::initializers::initializer;
 use crate::methods::method;
 use crate::unwritten::unwritten;
-use body_walks::Met;
 use je_ast::Member;
 use je_typing::Refusal;
 use member_faults::members_of;
 use member_forms::{
-    ClassWalk, MembersDone, alloc, declared_at, fields_behind, follow, methods_behind, no_cycle,
-    nothing,
+    ClassWalk, MembersDone, Met, alloc, declared_at, fields_behind, follow, methods_behind,
+    no_cycle, nothing,
 };
 use name_walk::Written;
 

@@ -4,12 +4,12 @@ ghost use Rattle.std.specs.Prelude.{◌≡◌, ◌≤◌, ℕ, IfOk, OnOk, lengt
 ghost use Rattle.std.specs.List.{sum_by};
 ghost use Rattle.body_places.specs.Places.{frame_seen};
 ghost use Rattle.body_places.specs.Tables.{constant_at, constant_in};
-ghost use Rattle.body_walks.specs.Walks.{HasAllMethods, known_in, program_in};
+ghost use Rattle.member_forms.specs.Bodies.{HasAllMethods, known_in, program_in};
 ghost use Rattle.class_heads.specs.View.{classes_of};
 ghost use Rattle.class_typing.specs.ConstantFields.{constants_of, field_value, nothing_known, unwritten};
 ghost use Rattle.je_classes.specs.Members.{Member};
 ghost use Rattle.source_types.specs.Erasure.{class_numbered};
-ghost use Rattle.core_making.specs.Known.{round_seen};
+ghost use Rattle.program_tables.specs.Known.{round_seen};
 ghost use Rattle.field_values.specs.Values.{value_at, values_in};
 ghost use Rattle.type_decl.specs.way.Asked.{is_asked};
 ghost use Rattle.type_decl.specs.way.Rows.{constant_due, fields_declared, next_seen};
@@ -17,11 +17,11 @@ ghost use Rattle.type_decl.specs.way.Rows.{constant_due, fields_declared, next_s
 use crate::judging::{Fields, asks, constants_by, judged_by};
 use crate::rows::{are_settled, put};
 use body_places::{Constant, Frame, fields_of};
-use body_walks::Bodies;
 use class_heads::AllClasses;
 use field_values::FieldValue;
 use je_base::Memory;
 use je_core::ClassId;
+use member_forms::Bodies;
 
 // No memory holds more classes than a number can name.
 fn class_at(at: usize) -> Result<ClassId, Memory>

@@ -10,10 +10,10 @@ ghost use Rattle.class_typing.specs.Elaboration.{constants_behind, constants_fir
 ghost use Rattle.class_typing.specs.Elaboration.{constants_told as the_constants_told, is_guest_class};
 ghost use Rattle.class_typing.specs.Places.{round_met as the_round_met};
 ghost use Rattle.type_decl.specs.way.Asked.{is_asked};
-ghost use Rattle.core_making.specs.Known.{round_seen};
+ghost use Rattle.program_tables.specs.Known.{round_seen};
 ghost use Rattle.library_classes.specs.Library.{all_due};
 ghost use Rattle.library_classes.specs.Numbers.{number_in};
-ghost use Rattle.body_walks.specs.Seen.{met_seen};
+ghost use Rattle.member_forms.specs.Bodies.{met_seen};
 ghost use Rattle.name_walk.specs.View.{written_view};
 ghost use Rattle.type_decl.specs.way.Seen.{ArePlaced, IsFirst};
 
@@ -22,11 +22,11 @@ use crate::meeting::{met_behind, nothing_met, placed, tells};
 use crate::rounds::constants_told;
 use crate::walk::{AllMet, BodiesMet, Walk, alloc};
 use body_places::{Constant, Frame};
-use body_walks::Met;
 use class_places::round_met;
 use field_values::{FieldValue, library_constants};
 use je_base::Memory;
 use je_core::{Class, ClassId};
+use member_forms::Met;
 use name_sites::Sites;
 use name_walk::Written;
 use std::alloc::Global;

@@ -8,27 +8,24 @@ ghost use Rattle.je_typing.specs.Judged.{gives};
 ghost use Rattle.name_walk.specs.View.{written_view};
 ghost use Rattle.overloads.specs.View.{candidate_seen};
 ghost use Rattle.class_typing.specs.Constructors.{chosen_for as the_chosen_for};
-ghost use Rattle.body_walks.specs.Walks.{HasAllMethods};
-ghost use Rattle.body_walks.specs.Seen.{met_seen};
-ghost use Rattle.body_walks.specs.Standings.{standing_seen};
+ghost use Rattle.member_forms.specs.Bodies.{HasAllMethods, met_seen, standing_seen};
 ghost use Rattle.member_forms.specs.Seen.{known_of, members_seen, program_of};
 ghost use Rattle.type_decl.specs.way.Walks.{anonymous_constructor as the_anonymous_constructor};
 ghost use Rattle.type_decl.specs.way.Unwritten.{anonymous_at as the_anonymous_at, unwritten_for, unwritten_if};
 
 use crate::enums::enum_members;
-use body_walks::{Met, Standing};
 use je_ast::{Expr, TyName};
 use je_base::Span;
 use je_core::Sort;
 use je_typing::Refusal;
 use member_faults::constants_of;
 use member_forms::{
-    ClassWalk, MembersDone, alloc, anonymous_code, chosen_for, default_constructor,
+    ClassWalk, MembersDone, Met, Standing, alloc, anonymous_code, chosen_for, default_constructor,
     is_without_constructor, nothing, scope_at,
 };
 use name_walk::Written;
 use overloads::Candidate;
-use type_expr::values;
+use type_statements::values;
 
 // The constructor that an anonymous class calls, by where it stands.
 #[tactic(auto, using(je_typing::proofs::Walks::walks))]

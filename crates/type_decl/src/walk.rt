@@ -4,9 +4,9 @@ ghost use Rattle.std.specs.Prelude.{◌≡◌};
 ghost use Rattle.name_sites.specs.View.{source_of};
 
 use body_places::Constant;
-use body_walks::{Bodies, Met};
 use class_places::Stands;
 use je_base::Names;
+use member_forms::{Bodies, Met};
 use std::alloc::Global;
 
 /// The classes of a program whose members are walked: what these are judged by, the names of the program, and how many

@@ -3,7 +3,7 @@
 ghost use Rattle.std.specs.Prelude.{◌≡◌, IfErr, IfOk, length, map};
 ghost use Rattle.name_sites.specs.View.{source_of};
 ghost use Rattle.body_places.specs.Tables.{constant_at};
-ghost use Rattle.body_walks.specs.Walks.{HasAllMethods, program_in};
+ghost use Rattle.member_forms.specs.Bodies.{HasAllMethods, met_seen, program_in};
 ghost use Rattle.class_heads.specs.View.{behind, classes_of};
 ghost use Rattle.class_typing.specs.ConstantFields.{constants_shifted};
 ghost use Rattle.class_typing.specs.Elaboration.{BodiesMet as TheBodiesMet, captured_count};
@@ -15,8 +15,7 @@ ghost use Rattle.field_values.specs.Values.{count_at};
 ghost use Rattle.je_core.specs.View.{class_view};
 ghost use Rattle.je_typing.specs.Answers.{IsFault};
 ghost use Rattle.je_typing.specs.Judged.{gives};
-ghost use Rattle.core_making.specs.Known.{captured_seen, round_seen};
-ghost use Rattle.body_walks.specs.Seen.{met_seen};
+ghost use Rattle.program_tables.specs.Known.{captured_seen, round_seen};
 ghost use Rattle.call_steps.specs.TableView.{HasMethods};
 ghost use Rattle.source_subtypes.specs.View.{heads_of};
 ghost use Rattle.type_faults.specs.Program.{source_in};
@@ -31,17 +30,18 @@ use crate::told::all_rounds;
 use crate::walk::{AllMet, BodiesMet, Walk};
 use binary_names::numbers;
 use body_places::{Captured, Constant, Frame};
-use body_walks::Bodies;
 use call_steps::{Calls, MethodTable};
 use class_heads::AllClasses;
-use core_making::{CapturedLocal, Known};
 use declarations::ClassDecl;
 use field_values::shifted;
 use je_base::Memory;
 use je_core::Class;
 use je_typing::Refusal;
+use member_forms::Bodies;
 use name_sites::Sites;
-use program_tables::{Layout, add_hidden_fields, captured_fields, plain_program};
+use program_tables::{
+    CapturedLocal, Known, Layout, add_hidden_fields, captured_fields, plain_program,
+};
 use std::alloc::Global;
 
 /// What is known behind the first walk, by class: the locals that are captured, the bodies round each class, the

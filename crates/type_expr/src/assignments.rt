@@ -20,7 +20,7 @@ use operator_steps::{Part, assignment, compound};
 use typed_nodes::TypedExpr;
 
 // Whether what is assigned is written as a variable and isn't final.
-#[tactic(auto, using(je_typing::proofs::Walks::walks), unfolding(body_typing::specs::Expressions::may_be_target, core_making::specs::Known::known_seen))]
+#[tactic(auto, using(je_typing::proofs::Walks::walks), unfolding(body_typing::specs::Expressions::may_be_target, body_walks::specs::Known::known_seen))]
 fn may_be_target(
     bodies: &Bodies,
     scope: &Scope,
@@ -44,7 +44,7 @@ fn may_be_target(
 }
 
 /// `++` and `--` of a target, which is to be written as a variable, and whose old or new value they give.
-#[tactic(auto, using(je_typing::proofs::Walks::walks, crate::proofs::Assigning::asking), unfolding(core_making::specs::Known::known_seen))]
+#[tactic(auto, using(je_typing::proofs::Walks::walks, crate::proofs::Assigning::asking), unfolding(body_walks::specs::Known::known_seen))]
 pub fn counted(
     bodies: &Bodies,
     scope: &Scope,

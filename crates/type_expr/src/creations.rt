@@ -12,11 +12,8 @@ ghost use Rattle.typed_nodes.specs.Seen.{seen};
 ghost use Rattle.body_walks.specs.Walks.{known_in, program_in};
 
 use body_scopes::Scope;
-use body_type_steps::anonymous_type;
-use body_walks::Bodies;
-use call_steps::CreationSpans;
-use core_making::captures_for;
-use creation_steps::{anonymous_creation, creation};
+use body_walks::{Bodies, anonymous_type, captures_for};
+use creation_steps::{CreationSpans, anonymous_creation, creation};
 use header_steps::class_of;
 use je_ast::TyName;
 use je_base::Span;

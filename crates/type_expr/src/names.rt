@@ -16,8 +16,7 @@ ghost use Rattle.body_walks.specs.Walks.{known_in, program_in};
 
 use crate::purpose::Purpose;
 use body_scopes::Scope;
-use body_type_steps::outer;
-use body_walks::Bodies;
+use body_walks::{Bodies, outer};
 use je_ast::{Expr, Identifier, Name};
 use je_base::Span;
 use je_typing::Refusal;

@@ -30,9 +30,8 @@ use crate::operators::{
 use crate::purpose::Purpose;
 use body_places::this;
 use body_scopes::Scope;
-use body_type_steps::{bare_type, body_type};
-use body_walks::Bodies;
-use call_steps::{CreationSpans, call_on, receiver_of, simple_call, super_call, used};
+use body_walks::{Bodies, bare_type, body_type};
+use creation_steps::{CreationSpans, call_on, receiver_of, simple_call, super_call, used};
 use expr_steps::literal;
 use je_ast::{BinaryOp, Expr, Identifier, PostfixOp, PrefixOp, TyName};
 use je_base::Span;

@@ -16,14 +16,13 @@ ghost use Rattle.typed_nodes.specs.Seen.{seen};
 ghost use Rattle.body_places.specs.Places.{local_seen};
 ghost use Rattle.body_scopes.specs.Extending.{Extends};
 ghost use Rattle.body_scopes.specs.View.{scope_seen};
-ghost use Rattle.body_walks.specs.Walks.{HasAllMethods};
+ghost use Rattle.statement_forms.specs.Bodies.{HasAllMethods};
 ghost use Rattle.statement_forms.specs.Seen.{done_seen, known_of, program_of, progress_seen, returning_of};
 ghost use Rattle.type_statements.specs.way.Declared.{declared as the_declared};
 
 use body_places::LocalVariable;
 use body_scopes::Scope;
 use body_type_steps::body_type;
-use body_walks::add_met;
 use conversion_steps::assigned;
 use je_ast::{Expr, Identifier, TyName, Var};
 use je_base::{Memory, Span};
@@ -32,8 +31,8 @@ use je_typing::Refusal;
 use name_types::SrcTy;
 use source_subtypes::copied;
 use statement_forms::{
-    Done, Progress, Walk, add_number, alloc, assigned_to, follow, local_of, new_name, next_number,
-    nothing, performed, variable_constant,
+    Done, Progress, Walk, add_met, add_number, alloc, assigned_to, follow, local_of, new_name,
+    next_number, nothing, performed, variable_constant,
 };
 use std::alloc::Global;
 use tree_spans::span;

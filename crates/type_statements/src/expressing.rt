@@ -12,16 +12,15 @@ ghost use Rattle.body_typing.specs.Bodies.{behind};
 ghost use Rattle.body_typing.specs.Statements.{behind_if, condition_or as the_condition_or, condition_span as the_condition_span, performed_steps as the_performed_steps, steps as the_steps, valued as the_valued};
 ghost use Rattle.typed_nodes.specs.Seen.{seen};
 ghost use Rattle.body_scopes.specs.View.{scope_seen};
-ghost use Rattle.body_walks.specs.Walks.{HasAllMethods};
+ghost use Rattle.statement_forms.specs.Bodies.{HasAllMethods};
 ghost use Rattle.statement_forms.specs.Seen.{done_in, known_of, program_of, progress_seen, returning_of};
 
 use body_scopes::Scope;
-use body_walks::add_met;
 use je_ast::Expr;
 use je_base::{Memory, Span};
 use je_core::{Base, Expr as Node};
 use je_typing::Refusal;
-use statement_forms::{Done, Progress, Walk, alloc, follow, nothing, one, performed};
+use statement_forms::{Done, Progress, Walk, add_met, alloc, follow, nothing, one, performed};
 use statement_steps::no_condition;
 use std::rc::Rc;
 use tree_spans::span;

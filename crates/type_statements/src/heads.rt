@@ -7,7 +7,7 @@ ghost use Rattle.je_typing.specs.Judged.{gives};
 ghost use Rattle.body_typing.specs.Statements.{for_start as the_for_start};
 ghost use Rattle.body_scopes.specs.Extending.{Extends};
 ghost use Rattle.body_scopes.specs.View.{scope_seen};
-ghost use Rattle.body_walks.specs.Walks.{HasAllMethods};
+ghost use Rattle.statement_forms.specs.Bodies.{HasAllMethods};
 ghost use Rattle.statement_forms.specs.Seen.{done_seen, known_of, program_of, progress_seen, returning_of};
 
 use crate::declaring::locals;

@@ -18,4 +18,5 @@ mod walking;
 
 pub use each::Elements;
 pub use heads::ForHead;
+pub use type_expr::{Purpose, value, values};
 pub use walking::statements;

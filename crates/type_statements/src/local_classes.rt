@@ -16,13 +16,12 @@ ghost use Rattle.body_scopes.specs.View.{scope_seen};
 ghost use Rattle.statement_forms.specs.Seen.{done_seen, program_of, progress_seen};
 
 use body_scopes::Scope;
-use body_walks::{Met, standing};
 use je_ast::{Decl, Identifier};
 use je_base::{Memory, NameId};
 use je_core::ClassId;
 use je_typing::{Refusal, TypeRule, check};
 use name_sites::Sites;
-use statement_forms::{Done, Progress, Walk, alloc, nothing};
+use statement_forms::{Done, Met, Progress, Walk, alloc, nothing, standing};
 
 #[tactic(auto, using(je_ast::proofs::Views::declaration_is))]
 fn declared_name(decl: &Decl) -> Identifier

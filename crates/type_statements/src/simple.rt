@@ -5,7 +5,7 @@ ghost use Rattle.je_ast.specs.View.{view, view_of_option};
 ghost use Rattle.je_typing.specs.Answers.{IsFault};
 ghost use Rattle.je_typing.specs.Judged.{gives};
 ghost use Rattle.body_scopes.specs.View.{scope_seen};
-ghost use Rattle.body_walks.specs.Walks.{HasAllMethods};
+ghost use Rattle.statement_forms.specs.Bodies.{HasAllMethods};
 ghost use Rattle.statement_forms.specs.Seen.{done_in, progress_seen};
 ghost use Rattle.statement_forms.specs.Written.{statement_of};
 ghost use Rattle.type_statements.specs.Written.{a_return, a_throw, an_expression};

@@ -10,7 +10,7 @@ ghost use Rattle.typed_nodes.specs.Seen.{seen};
 ghost use Rattle.value_statements.specs.Labels.{label_seen};
 ghost use Rattle.body_places.specs.View.{program_seen};
 ghost use Rattle.body_scopes.specs.View.{scope_seen};
-ghost use Rattle.body_walks.specs.Walks.{HasAllMethods};
+ghost use Rattle.statement_forms.specs.Bodies.{HasAllMethods};
 ghost use Rattle.statement_forms.specs.Seen.{known_of, program_of, progress_seen};
 ghost use Rattle.type_statements.specs.way.Labelled.{behind_one, one_label};
 

@@ -11,7 +11,7 @@ ghost use Rattle.body_typing.specs.Statements.{catches as the_catches, groups as
 ghost use Rattle.body_scopes.specs.Extending.{Extends};
 ghost use Rattle.body_scopes.specs.View.{scope_seen};
 ghost use Rattle.statement_forms.specs.View.{clause_seen};
-ghost use Rattle.body_walks.specs.Walks.{HasAllMethods};
+ghost use Rattle.statement_forms.specs.Bodies.{HasAllMethods};
 ghost use Rattle.statement_forms.specs.Seen.{done_seen, groups_in, known_of, program_of, progress_seen, returning_of};
 ghost use Rattle.type_statements.specs.Walk.{statements_by};
 ghost use Rattle.type_statements.specs.way.Caught.{one_catch};

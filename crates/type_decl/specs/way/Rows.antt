@@ -6,7 +6,7 @@ use Rattle.name_typing.specs.Fields.{field_at}
 use Rattle.name_typing.specs.Program.{Constant, Frame, Program}
 use Rattle.body_typing.specs.Expressions.{expression, initial, value}
 use Rattle.class_typing.specs.ConstantFields.{FieldValue, by, if_final, in_initializer, nothing_known}
-use Rattle.core_making.specs.Known.{round_seen}
+use Rattle.program_tables.specs.Known.{round_seen}
 use Rattle.field_values.specs.Values.{value_at}
 use Rattle.type_decl.specs.declared.judging.Fields.{Fields}
 use Rattle.type_decl.specs.way.Asked.{is_asked}

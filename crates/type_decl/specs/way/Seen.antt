@@ -2,7 +2,7 @@
 use Rattle.std.specs.Prelude.{◌≡◌, ℕ, ◌<◌, List, [], length, map}
 use Rattle.body_places.specs.Tables.{constant_at}
 use Rattle.body_scopes.specs.View.{blank_seen}
-use Rattle.body_walks.specs.Walks.{HasAllMethods, known_in, program_in}
+use Rattle.member_forms.specs.Bodies.{HasAllMethods, known_in, met_seen, program_in}
 use Rattle.class_heads.specs.View.{classes_of}
 use Rattle.class_methods.specs.HierarchyView.{HasAll}
 use Rattle.class_places.specs.First.{AreFirst}
@@ -17,8 +17,7 @@ use Rattle.je_scopes.specs.BinaryNames.{number_in}
 use Rattle.je_scopes.specs.Sites.{Site}
 use Rattle.je_scopes.specs.Source.{Source}
 use Rattle.je_typing.specs.Judged.{Judged}
-use Rattle.core_making.specs.Known.{captured_seen}
-use Rattle.body_walks.specs.Seen.{met_seen}
+use Rattle.program_tables.specs.Known.{captured_seen}
 use Rattle.source_subtypes.specs.View.{heads_of}
 use Rattle.body_typing.specs.Bodies.{Met}
 use Rattle.type_decl.specs.declared.told.FirstWalk.{FirstWalk}

@@ -7,8 +7,7 @@ use Rattle.je_typing.specs.Judged.{Judged, gives}
 use Rattle.name_lookup.specs.View.{look_view, numbers}
 use Rattle.name_types.specs.declared.types.SrcTy.{SrcTy}
 use Rattle.name_types.specs.View.{all_shown, base_shown, shown}
-use Rattle.body_places.specs.Places.{frame_seen}
-use Rattle.body_places.specs.View.{program_seen}
+use Rattle.name_steps.specs.Places.{frame_seen, program_seen}
 use Rattle.body_types.specs.BodyTypes.{classes_at, look_at, type_of_look}
 use Rattle.body_type_steps.proofs.Behind.{is_bare_type, is_no_type, last_by}
 use Rattle.body_type_steps.proofs.bare.bare_name.Goals as goal

@@ -7,8 +7,7 @@ use Rattle.je_typing.specs.Judged.{Judged, gives}
 use Rattle.name_types.proofs.Named.{class_node}
 use Rattle.name_types.specs.declared.types.SrcTy.{SrcTy}
 use Rattle.name_types.specs.View.{all_shown, shown}
-use Rattle.body_places.specs.Places.{frame_seen}
-use Rattle.body_places.specs.View.{program_seen}
+use Rattle.name_steps.specs.Places.{frame_seen, program_seen}
 use Rattle.body_types.specs.BodyTypes.{body_types}
 use Rattle.body_type_steps.proofs.Arguments.{argument_fails, argument_on, arguments_end, gathered, none_yet}
 use Rattle.body_type_steps.proofs.ClassTypes.{arguments_fail, behind_them}

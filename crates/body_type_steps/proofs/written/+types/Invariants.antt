@@ -1,8 +1,7 @@
 use Rattle.std.proofs.Common.{◌≡◌, drop, map}
 use Rattle.je_ast.specs.Types.{type_views_of}
 use Rattle.name_types.specs.View.{shown}
-use Rattle.body_places.specs.Places.{frame_seen}
-use Rattle.body_places.specs.View.{program_seen}
+use Rattle.name_steps.specs.Places.{frame_seen, program_seen}
 use Rattle.body_types.specs.BodyTypes.{body_types}
 use Rattle.body_type_steps.proofs.Arguments.{gathered}
 use Rattle.body_type_steps.proofs.written.+types.Given as goal

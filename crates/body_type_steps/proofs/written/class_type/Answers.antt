@@ -8,8 +8,7 @@ use Rattle.name_lookup.specs.View.{look_view, numbers}
 use Rattle.name_types.specs.declared.types.SrcBase.{SrcBase}
 use Rattle.name_types.specs.View.{all_shown, base_shown, shown}
 use Rattle.name_types.proofs.Named.{count_of_views}
-use Rattle.body_places.specs.Places.{frame_seen}
-use Rattle.body_places.specs.View.{program_seen}
+use Rattle.name_steps.specs.Places.{frame_seen, program_seen}
 use Rattle.body_types.specs.BodyTypes.{classes_at, look_at}
 use Rattle.body_type_steps.proofs.Behind.{in_bounds, last_by, out_of_bounds, takes_others}
 use Rattle.body_type_steps.proofs.written.class_type.Goals as goal

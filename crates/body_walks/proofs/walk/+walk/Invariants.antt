@@ -4,7 +4,7 @@ use Rattle.je_ast.specs.View.{views_of}
 use Rattle.body_typing.specs.Mentions.{all_mentions}
 use Rattle.body_typing.specs.Bodies.{met_by}
 use Rattle.body_places.specs.View.{program_seen}
-use Rattle.body_scopes.specs.View.{scope_seen}
+use Rattle.core_making.specs.Scopes.{scope_seen}
 use Rattle.body_walks.specs.Seen.{met_seen}
 use Rattle.body_walks.proofs.walk.+walk.Given as goal
 

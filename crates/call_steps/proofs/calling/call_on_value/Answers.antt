@@ -6,8 +6,7 @@ use Rattle.je_typing.proofs.Walks.{bind_faults, fault_later}
 use Rattle.call_typing.specs.Calls.{call_on_value, method_for}
 use Rattle.typed_nodes.specs.declared.typed.TypedExpr.{TypedExpr}
 use Rattle.typed_nodes.specs.Seen.{seen}
-use Rattle.body_places.specs.View.{program_seen}
-use Rattle.body_places.specs.Places.{place_seen}
+use Rattle.name_steps.specs.Places.{place_seen, program_seen}
 use Rattle.je_typing.specs.Answers.{IsFault}
 use Rattle.name_types.specs.View.{shown}
 use Rattle.call_steps.proofs.Steps.{then_gives}

@@ -8,10 +8,9 @@ use Rattle.je_typing.specs.Judged.{check, gives}
 use Rattle.je_typing.proofs.Walks.{bind_faults, fault_later}
 use Rattle.overloads.specs.View.{candidate_seen}
 use Rattle.typed_nodes.specs.Seen.{seen}
-use Rattle.body_places.specs.View.{program_seen}
+use Rattle.name_steps.specs.Places.{place_seen, program_seen}
 use Rattle.call_typing.specs.Calls.{exactly, super_call, typed_call, method_for}
 use Rattle.typed_nodes.specs.declared.typed.TypedExpr.{TypedExpr}
-use Rattle.body_places.specs.Places.{place_seen}
 use Rattle.name_typing.specs.Accesses.{superclass_of}
 use Rattle.source_subtypes.specs.View.{heads_of}
 use Rattle.call_steps.proofs.Steps.{then_gives}

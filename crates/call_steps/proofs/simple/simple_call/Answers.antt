@@ -8,8 +8,7 @@ use Rattle.je_typing.proofs.Walks.{bind_faults, fault_later}
 use Rattle.call_typing.specs.Calls.{simple_call, method_for, class_outwards}
 use Rattle.typed_nodes.specs.declared.typed.TypedExpr.{TypedExpr}
 use Rattle.typed_nodes.specs.Seen.{seen}
-use Rattle.body_places.specs.View.{program_seen}
-use Rattle.body_places.specs.Places.{place_seen}
+use Rattle.name_steps.specs.Places.{place_seen, program_seen}
 use Rattle.header_typing.specs.Supers.{own_type}
 use Rattle.source_subtypes.specs.View.{heads_of}
 use Rattle.call_steps.proofs.Steps.{then_gives}

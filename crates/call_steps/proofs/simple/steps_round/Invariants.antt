@@ -1,7 +1,6 @@
 use Rattle.std.proofs.Common.{◌≡◌, ◌+◌, drop, map}
 use Rattle.call_typing.specs.Calls.{steps_from}
-use Rattle.body_places.specs.Places.{frame_seen}
-use Rattle.body_places.specs.View.{program_seen}
+use Rattle.name_steps.specs.Places.{frame_seen, program_seen}
 use Rattle.call_steps.proofs.simple.steps_round.Given as goal
 
 abbrev pub invariant-loop-at : goal.invariant-loop-at

@@ -5,7 +5,7 @@ use Rattle.class_typing.specs.Captures.{reversed}
 use Rattle.name_typing.specs.Program.{LocalVariable}
 use Rattle.body_places.specs.declared.place.LocalVariable.{LocalVariable as Kept}
 use Rattle.body_places.specs.Places.{local_seen}
-use Rattle.core_making.specs.Known.{captured_local_seen}
+use Rattle.body_walks.specs.Known.{captured_local_seen}
 use Rattle.class_places.specs.way.Locals.{is_kept, own}
 use Rattle.class_places.proofs.Ordered.{drop_before, one_kept, one_left}
 use Rattle.class_places.proofs.locals.add_locals.Goals as goal

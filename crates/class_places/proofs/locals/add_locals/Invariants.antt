@@ -1,7 +1,7 @@
 use Rattle.std.proofs.Common.{◌≡◌, ◌++◌, ◌≤◌, drop, filter, length, map}
 use Rattle.class_typing.specs.Captures.{reversed}
 use Rattle.body_places.specs.Places.{local_seen}
-use Rattle.core_making.specs.Known.{captured_local_seen}
+use Rattle.body_walks.specs.Known.{captured_local_seen}
 use Rattle.class_places.specs.way.Locals.{is_kept, own}
 use Rattle.class_places.proofs.locals.add_locals.Given as goal
 

@@ -3,7 +3,7 @@ use Rattle.std.proofs.lemmas.Grind.{common_steps}
 use Rattle.name_lookup.proofs.Tables.{push-each}
 use Rattle.name_typing.specs.Program.{Frame}
 use Rattle.body_places.specs.View.{program_seen}
-use Rattle.core_making.specs.Known.{captured_seen, locals_in, round_seen}
+use Rattle.body_walks.specs.Known.{captured_seen, locals_in, round_seen}
 use Rattle.class_places.specs.way.Locals.{is_kept, locals_from}
 use Rattle.class_places.proofs.locals.all_locals.Goals as goal
 

@@ -1,5 +1,5 @@
 use Rattle.std.proofs.Common.{◌≡◌, ℕ, ◌<◌, length, filter}
-use Rattle.core_making.specs.Known.{captured_seen, round_seen}
+use Rattle.body_walks.specs.Known.{captured_seen, round_seen}
 use Rattle.class_places.specs.way.Locals.{is_kept, locals_from}
 use Rattle.class_places.proofs.locals.all_locals.Given as goal
 

@@ -1,6 +1,6 @@
 use Rattle.std.specs.Prelude.{map}
 use Rattle.body_places.specs.View.{program_seen}
-use Rattle.core_making.specs.Known.{round_seen}
+use Rattle.body_walks.specs.Known.{round_seen}
 use Rattle.body_walks.specs.Seen.{met_seen}
 use Rattle.class_places.proofs.Ordered.{all_captured}
 use Rattle.class_places.proofs.locals.captured_locals.Goals as goal

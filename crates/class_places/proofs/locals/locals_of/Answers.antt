@@ -3,7 +3,7 @@ use Rattle.class_typing.specs.Captures.{reversed}
 use Rattle.body_places.specs.declared.place.Frame.{Frame}
 use Rattle.body_places.specs.declared.place.LocalVariable.{LocalVariable}
 use Rattle.body_places.specs.Places.{frame_seen, local_seen}
-use Rattle.core_making.specs.Known.{captured_local_seen}
+use Rattle.body_walks.specs.Known.{captured_local_seen}
 use Rattle.class_places.specs.way.Locals.{is_kept, locals_from, own}
 use Rattle.class_places.proofs.Ordered.{drop_before, frame_more}
 use Rattle.class_places.proofs.locals.locals_of.Goals as goal

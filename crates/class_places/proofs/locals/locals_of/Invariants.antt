@@ -1,6 +1,6 @@
 use Rattle.std.proofs.Common.{◌≡◌, ◌≤◌, drop, filter, length, map}
 use Rattle.body_places.specs.Places.{frame_seen}
-use Rattle.core_making.specs.Known.{captured_local_seen}
+use Rattle.body_walks.specs.Known.{captured_local_seen}
 use Rattle.class_places.specs.way.Locals.{is_kept, locals_from}
 use Rattle.class_places.proofs.locals.locals_of.Given as goal
 

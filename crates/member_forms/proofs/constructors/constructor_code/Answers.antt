@@ -6,7 +6,7 @@ use Rattle.declarations.specs.View.{method_shown}
 use Rattle.body_typing.specs.Bodies.{Done, block_of}
 use Rattle.class_typing.specs.Captures.{listed}
 use Rattle.class_typing.specs.Members.{nothing}
-use Rattle.body_walks.specs.Seen.{met_seen}
+use Rattle.statement_forms.specs.Bodies.{met_seen}
 use Rattle.typed_nodes.specs.Seen.{seen}
 use Rattle.statement_forms.specs.Seen.{done_in, progress_seen}
 use Rattle.member_forms.specs.Walks.{code_of, number, with_head}

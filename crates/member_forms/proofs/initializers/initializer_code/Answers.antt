@@ -1,7 +1,7 @@
 use Rattle.std.proofs.Common.{rules, ◌≡◌, ◌∷◌, [], map, ap, ◌∙◌}
 use Rattle.je_core.specs.View.{stmt_view}
 use Rattle.class_typing.specs.Members.{nothing}
-use Rattle.body_walks.specs.Seen.{met_seen}
+use Rattle.statement_forms.specs.Bodies.{met_seen}
 use Rattle.statement_forms.specs.Seen.{progress_seen}
 use Rattle.member_forms.proofs.initializers.initializer_code.Goals as goal
 

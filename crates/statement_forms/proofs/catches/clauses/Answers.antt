@@ -6,7 +6,7 @@ use Rattle.je_core.specs.Core.{CoreCatch}
 use Rattle.je_core.specs.View.{catch_view}
 use Rattle.source_subtypes.specs.View.{heads_of}
 use Rattle.body_typing.specs.Catches as words
-use Rattle.body_scopes.specs.View.{scope_seen}
+use Rattle.body_walks.specs.Scopes.{scope_seen}
 use Rattle.statement_forms.specs.declared.catches.Clause.{Clause}
 use Rattle.statement_forms.specs.View.{clause_seen}
 use Rattle.statement_forms.proofs.Caught.{clause_fails, clause_made, clauses_begin, clauses_end, left_behind}

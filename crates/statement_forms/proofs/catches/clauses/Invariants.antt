@@ -3,7 +3,7 @@ use Rattle.std.specs.Vec.Iter.{into_iter_items, into_iter_len}
 use Rattle.je_core.specs.View.{catch_view}
 use Rattle.source_subtypes.specs.View.{heads_of}
 use Rattle.body_typing.specs.Catches.{clauses}
-use Rattle.body_scopes.specs.View.{scope_seen}
+use Rattle.body_walks.specs.Scopes.{scope_seen}
 use Rattle.statement_forms.specs.View.{clause_seen}
 use Rattle.statement_forms.proofs.Caught.{left_behind}
 use Rattle.statement_forms.proofs.catches.clauses.Given as goal

@@ -8,7 +8,7 @@ use Rattle.je_typing.proofs.Walks.{bind_gives}
 use Rattle.statement_steps.specs.View.{returning_seen}
 use Rattle.body_typing.specs.Statements.{statements}
 use Rattle.body_scopes.specs.View.{scope_seen}
-use Rattle.statement_forms.specs.Seen.{done_seen, progress_seen}
+use Rattle.member_forms.specs.Statements.{done_seen, progress_seen}
 use Rattle.member_forms.specs.Seen.{known_of, program_of}
 use Rattle.member_forms.specs.Walks.{body_done}
 use Rattle.type_decl.proofs.bodies.body_if.Goals as goal

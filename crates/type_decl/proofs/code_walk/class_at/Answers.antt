@@ -3,7 +3,7 @@ use Rattle.std.proofs.lemmas.Result.{err_from_is_err_and}
 use Rattle.je_typing.specs.Answers.{IsFault}
 use Rattle.je_typing.specs.Judged.{Judged, gives}
 use Rattle.je_typing.proofs.Walks.{bind_faults, bind_gives}
-use Rattle.body_walks.specs.Seen.{met_seen}
+use Rattle.member_forms.specs.Bodies.{met_seen}
 use Rattle.member_forms.specs.Seen.{members_seen}
 use Rattle.name_sites.specs.View.{source_of}
 use Rattle.class_typing.specs.Classes.{core_class}

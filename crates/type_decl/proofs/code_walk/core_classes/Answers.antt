@@ -2,7 +2,7 @@ use Rattle.std.proofs.Common.{◌≡◌, ℕ, ◌-◌, [], ◌∷◌, length, ma
 use Rattle.std.proofs.lemmas.Result.{err_from_is_err_and}
 use Rattle.std.proofs.lemmas.List.{map-append}
 use Rattle.je_core.specs.View.{class_view}
-use Rattle.body_walks.specs.Seen.{met_seen}
+use Rattle.member_forms.specs.Bodies.{met_seen}
 use Rattle.name_sites.specs.View.{source_of}
 use Rattle.class_typing.specs.Elaboration.{core_classes, guest_count}
 use Rattle.type_decl.specs.way.Seen.{captured_of, world_of}

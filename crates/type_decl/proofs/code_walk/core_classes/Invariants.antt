@@ -2,7 +2,7 @@ use Rattle.std.proofs.Common.{◌≡◌, ◌-◌, length, map}
 use Rattle.name_sites.specs.View.{source_of}
 use Rattle.je_core.specs.View.{class_view}
 use Rattle.class_typing.specs.Elaboration.{core_classes, guest_count}
-use Rattle.body_walks.specs.Seen.{met_seen}
+use Rattle.member_forms.specs.Bodies.{met_seen}
 use Rattle.type_decl.specs.way.Seen.{captured_of, world_of}
 use Rattle.type_decl.proofs.Making.{behind}
 use Rattle.type_decl.proofs.code_walk.core_classes.Given as goal

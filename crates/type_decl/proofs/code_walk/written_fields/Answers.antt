@@ -1,7 +1,7 @@
 use Rattle.std.proofs.Common.{◌≡◌, ℕ, drop, length, map, ap, sym, ◌∙◌}
 use Rattle.declarations.specs.View.{field_shown}
 use Rattle.name_typing.specs.Fields.{fields_of}
-use Rattle.body_walks.specs.Walks.{program_in}
+use Rattle.member_forms.specs.Bodies.{program_in}
 use Rattle.class_typing.specs.Programs.{classes, with_hidden}
 use Rattle.type_decl.specs.way.Seen.{captured_of}
 use Rattle.type_decl.proofs.Making.{behind_hidden, written_behind}

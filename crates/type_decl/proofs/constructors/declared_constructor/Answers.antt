@@ -13,7 +13,7 @@ use Rattle.body_typing.specs.Bodies.{Done}
 use Rattle.body_typing.specs.Statements.{statements}
 use Rattle.class_typing.specs.Captures.{listed}
 use Rattle.body_scopes.specs.View.{scope_seen}
-use Rattle.statement_forms.specs.Seen.{done_seen, progress_seen}
+use Rattle.member_forms.specs.Statements.{done_seen, progress_seen}
 use Rattle.member_forms.specs.Seen.{known_of, program_of}
 use Rattle.member_forms.specs.Walks.{begun, parameters}
 use Rattle.type_decl.proofs.constructors.declared_constructor.Goals as goal

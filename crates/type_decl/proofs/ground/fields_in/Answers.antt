@@ -1,6 +1,6 @@
 use Rattle.std.proofs.Common.{◌≡◌, ap, sym, ◌∙◌}
 use Rattle.field_values.specs.Values.{count_at, value_at}
-use Rattle.core_making.specs.Known.{captured_seen}
+use Rattle.program_tables.specs.Known.{captured_seen}
 use Rattle.class_typing.specs.ConstantFields.{field_value}
 use Rattle.class_typing.specs.Elaboration.{hidden_count}
 use Rattle.name_sites.specs.View.{source_of}

@@ -6,7 +6,7 @@ use Rattle.je_typing.proofs.Walks.{bind_gives}
 use Rattle.statement_steps.specs.Returns.{never}
 use Rattle.body_typing.specs.Statements.{statements}
 use Rattle.body_scopes.specs.View.{scope_seen}
-use Rattle.statement_forms.specs.Seen.{done_seen}
+use Rattle.member_forms.specs.Statements.{done_seen}
 use Rattle.member_forms.specs.Seen.{known_of, program_of}
 use Rattle.type_decl.proofs.initializers.initializer.Goals as goal
 

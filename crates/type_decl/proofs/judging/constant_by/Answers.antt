@@ -4,7 +4,7 @@ use Rattle.declarations.specs.View.{field_shown}
 use Rattle.name_typing.specs.Fields.{field_at}
 use Rattle.body_places.specs.Places.{frame_seen}
 use Rattle.body_scopes.specs.View.{scope_seen}
-use Rattle.body_walks.specs.Walks.{known_in, program_in}
+use Rattle.member_forms.specs.Bodies.{known_in, program_in}
 use Rattle.field_values.specs.Values.{value_seen}
 use Rattle.type_decl.proofs.Due.{initializer_due}
 use Rattle.type_decl.proofs.judging.constant_by.Goals as goal

@@ -5,7 +5,7 @@ use Rattle.name_lookup.proofs.Tables.{push-each}
 use Rattle.body_places.specs.declared.tables.Constant.{Constant}
 use Rattle.body_places.specs.Places.{frame_seen}
 use Rattle.body_places.specs.Tables.{constant_in}
-use Rattle.body_walks.specs.Walks.{program_in}
+use Rattle.member_forms.specs.Bodies.{program_in}
 use Rattle.class_typing.specs.ConstantFields.{unwritten}
 use Rattle.field_values.specs.declared.values.FieldValue.{FieldValue}
 use Rattle.field_values.specs.Values.{value_seen}

@@ -2,7 +2,7 @@ use Rattle.std.proofs.Common.{◌≡◌, ℕ, ◌<◌, length, map}
 use Rattle.std.specs.Prelude.{slice_get, unwrap_or}
 use Rattle.body_places.specs.Places.{frame_seen}
 use Rattle.body_places.specs.Tables.{constant_in}
-use Rattle.body_walks.specs.Walks.{program_in}
+use Rattle.member_forms.specs.Bodies.{program_in}
 use Rattle.class_typing.specs.ConstantFields.{unwritten}
 use Rattle.field_values.specs.Values.{value_seen}
 use Rattle.type_decl.specs.way.Rows.{constant_due}

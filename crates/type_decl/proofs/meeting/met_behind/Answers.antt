@@ -2,8 +2,7 @@ use Rattle.std.proofs.Common.{◌≡◌, ℕ, List, ◌++◌, length, map, take,
 use Rattle.std.specs.Vec.{vec_len}
 use Rattle.std.proofs.Math.Seq.{take-append_seam}
 use Rattle.class_places.specs.First.{AreFirst}
-use Rattle.body_walks.specs.declared.met.Met.{Met}
-use Rattle.body_walks.specs.Seen.{met_seen}
+use Rattle.member_forms.specs.Bodies.{Met, met_seen}
 use Rattle.type_decl.proofs.meeting.met_behind.Goals as goal
 
 pub returns-clause-placed : goal.returns-clause-placed

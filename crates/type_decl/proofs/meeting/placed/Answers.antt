@@ -5,7 +5,7 @@ use Rattle.name_lookup.proofs.Tables.{push-each}
 use Rattle.name_sites.specs.View.{source_of}
 use Rattle.body_scopes.specs.View.{is_set}
 use Rattle.class_typing.specs.Places.{is_placed}
-use Rattle.body_walks.specs.Seen.{met_seen}
+use Rattle.member_forms.specs.Bodies.{met_seen}
 use Rattle.type_decl.proofs.Past.{all_placed, some_seen}
 use Rattle.type_decl.proofs.meeting.placed.Goals as goal
 

@@ -3,7 +3,7 @@ use Rattle.std.specs.Prelude.{slice_get}
 use Rattle.body_scopes.specs.View.{is_set}
 use Rattle.name_sites.specs.View.{source_of}
 use Rattle.class_typing.specs.Places.{is_placed}
-use Rattle.body_walks.specs.Seen.{met_seen}
+use Rattle.member_forms.specs.Bodies.{met_seen}
 use Rattle.type_decl.proofs.meeting.placed.Given as goal
 
 abbrev pub invariant-loop-at : goal.invariant-loop-at

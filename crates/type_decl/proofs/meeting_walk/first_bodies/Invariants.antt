@@ -2,7 +2,7 @@ use Rattle.std.proofs.Common.{◌≡◌, ◌-◌, length, map}
 use Rattle.name_sites.specs.View.{source_of}
 use Rattle.body_places.specs.Tables.{constant_at}
 use Rattle.class_typing.specs.Elaboration.{bodies_from, first_bodies}
-use Rattle.body_walks.specs.Seen.{met_seen}
+use Rattle.member_forms.specs.Bodies.{met_seen}
 use Rattle.type_decl.specs.way.Seen.{ArePlaced}
 use Rattle.type_decl.proofs.meeting_walk.first_bodies.Given as goal
 

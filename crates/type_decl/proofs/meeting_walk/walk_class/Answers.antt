@@ -4,8 +4,7 @@ use Rattle.je_typing.specs.Answers.{IsFault}
 use Rattle.je_typing.specs.Judged.{Judged, gives}
 use Rattle.je_typing.proofs.Walks.{bind_faults, bind_gives}
 use Rattle.body_places.specs.Tables.{constant_at}
-use Rattle.body_walks.specs.Walks.{program_in}
-use Rattle.body_walks.specs.Seen.{met_seen}
+use Rattle.member_forms.specs.Bodies.{met_seen, program_in}
 use Rattle.member_forms.specs.Seen.{members_seen}
 use Rattle.name_sites.specs.View.{source_of}
 use Rattle.class_typing.specs.Elaboration.{BodiesMet, constants_behind, first_world, members_of, nothing_captured}

@@ -7,7 +7,7 @@ use Rattle.je_typing.proofs.Walks.{bind_gives}
 use Rattle.class_typing.specs.Constructors.{no_cycle}
 use Rattle.member_forms.specs.Calls.{own_call_seen}
 use Rattle.member_forms.specs.declared.cycles.OwnCall.{OwnCall}
-use Rattle.body_walks.specs.Seen.{met_seen}
+use Rattle.member_forms.specs.Bodies.{met_seen}
 use Rattle.member_forms.specs.Seen.{members_seen}
 use Rattle.type_decl.specs.way.Walks.{members_from, written_of}
 use Rattle.type_decl.specs.way.Unwritten.{unwritten_for, whole_for}

@@ -8,7 +8,7 @@ use Rattle.name_types.specs.View.{shown}
 use Rattle.je_scopes.specs.Sites.{Context}
 use Rattle.statement_steps.specs.Returns.{Returning}
 use Rattle.body_scopes.specs.View.{scope_seen}
-use Rattle.statement_forms.specs.Seen.{progress_seen}
+use Rattle.member_forms.specs.Statements.{progress_seen}
 use Rattle.member_forms.specs.Walks.{begun, body_done, parameters, scope_in}
 use Rattle.type_decl.specs.way.Walks.{body_if}
 use Rattle.type_decl.proofs.methods.declared_method.Goals as goal

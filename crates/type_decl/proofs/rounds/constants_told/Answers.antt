@@ -3,9 +3,9 @@ use Rattle.std.specs.Prelude.{Option}
 use Rattle.std.specs.List.{sum_by}
 use Rattle.je_classes.specs.Members.{Member}
 use Rattle.name_typing.specs.Program.{Constant}
-use Rattle.core_making.specs.Known.{round_seen}
+use Rattle.program_tables.specs.Known.{round_seen}
 use Rattle.body_places.specs.Tables.{constant_at}
-use Rattle.body_walks.specs.Walks.{program_in}
+use Rattle.member_forms.specs.Bodies.{program_in}
 use Rattle.type_decl.specs.way.Asked.{is_asked}
 use Rattle.class_typing.specs.ConstantFields.{constants_of, constants_within}
 use Rattle.type_decl.specs.way.Rows.{fields_declared, next_seen}

@@ -1,7 +1,7 @@
 use Rattle.std.proofs.Common.{◌≡◌, ℕ, ◌≤◌, length}
-use Rattle.core_making.specs.Known.{round_seen}
+use Rattle.program_tables.specs.Known.{round_seen}
 use Rattle.body_places.specs.Tables.{constant_at}
-use Rattle.body_walks.specs.Walks.{program_in}
+use Rattle.member_forms.specs.Bodies.{program_in}
 use Rattle.class_typing.specs.ConstantFields.{constants_within, field_value}
 use Rattle.field_values.specs.Values.{value_at}
 use Rattle.type_decl.specs.way.Asked.{is_asked}

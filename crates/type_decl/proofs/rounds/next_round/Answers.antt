@@ -4,7 +4,7 @@ use Rattle.std.specs.declared.vec.Vec.{Vec}
 use Rattle.std.specs.declared.alloc.Global.{Global}
 use Rattle.body_places.specs.declared.tables.Constant.{Constant}
 use Rattle.body_places.specs.Tables.{constant_at}
-use Rattle.body_walks.specs.Walks.{program_in}
+use Rattle.member_forms.specs.Bodies.{program_in}
 use Rattle.type_decl.proofs.Within.{next_is, nothing_new}
 use Rattle.type_decl.proofs.rounds.next_round.Goals as goal
 

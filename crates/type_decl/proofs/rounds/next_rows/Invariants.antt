@@ -1,10 +1,10 @@
 use Rattle.std.proofs.Common.{◌≡◌, ℕ, ◌<◌, length, true}
 use Rattle.std.specs.Prelude.{slice_get, unwrap_or}
 use Rattle.source_types.specs.Erasure.{class_numbered}
-use Rattle.core_making.specs.Known.{round_seen}
+use Rattle.program_tables.specs.Known.{round_seen}
 use Rattle.body_places.specs.Tables as tables
 use Rattle.body_places.specs.Tables.{constant_in}
-use Rattle.body_walks.specs.Walks.{program_in}
+use Rattle.member_forms.specs.Bodies.{program_in}
 use Rattle.class_typing.specs.ConstantFields.{unwritten}
 use Rattle.field_values.specs.Values.{values_in}
 use Rattle.type_decl.specs.way.Asked.{is_asked}

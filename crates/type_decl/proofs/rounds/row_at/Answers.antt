@@ -3,10 +3,10 @@ use Rattle.std.specs.Prelude.{Option, slice_get, unwrap_or}
 use Rattle.std.specs.declared.vec.Vec.{Vec}
 use Rattle.std.specs.declared.alloc.Global.{Global}
 use Rattle.source_types.specs.Erasure.{class_numbered}
-use Rattle.core_making.specs.Known.{round_seen}
+use Rattle.program_tables.specs.Known.{round_seen}
 use Rattle.body_places.specs.declared.tables.Constant.{Constant}
 use Rattle.body_places.specs.Tables.{constant_in}
-use Rattle.body_walks.specs.Walks.{program_in}
+use Rattle.member_forms.specs.Bodies.{program_in}
 use Rattle.class_typing.specs.ConstantFields.{unwritten}
 use Rattle.field_values.specs.declared.values.FieldValue.{FieldValue}
 use Rattle.field_values.specs.Values.{value_seen, values_in}

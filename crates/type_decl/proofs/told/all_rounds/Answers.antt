@@ -3,9 +3,9 @@ use Rattle.std.specs.Prelude.{slice_get}
 use Rattle.std.proofs.lemmas.Grind.{common_steps}
 use Rattle.name_lookup.proofs.Tables.{push-each}
 use Rattle.name_sites.specs.View.{source_of}
-use Rattle.core_making.specs.Known.{frames_in}
+use Rattle.program_tables.specs.Known.{frames_in}
 use Rattle.class_typing.specs.Places.{round_met}
-use Rattle.body_walks.specs.Seen.{met_seen}
+use Rattle.member_forms.specs.Bodies.{met_seen}
 use Rattle.type_decl.proofs.Past.{all_round}
 use Rattle.type_decl.proofs.told.all_rounds.Goals as goal
 

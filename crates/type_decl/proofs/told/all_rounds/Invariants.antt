@@ -1,9 +1,9 @@
 use Rattle.std.proofs.Common.{◌≡◌, ℕ, ◌<◌, length, map}
 use Rattle.std.specs.Prelude.{slice_get}
 use Rattle.name_sites.specs.View.{source_of}
-use Rattle.core_making.specs.Known.{frames_in}
+use Rattle.program_tables.specs.Known.{frames_in}
 use Rattle.class_typing.specs.Places.{round_met}
-use Rattle.body_walks.specs.Seen.{met_seen}
+use Rattle.member_forms.specs.Bodies.{met_seen}
 use Rattle.type_decl.proofs.told.all_rounds.Given as goal
 
 abbrev pub invariant-loop-at : goal.invariant-loop-at

@@ -1,7 +1,7 @@
 use Rattle.std.proofs.Common.{◌≡◌, map, ap, sym, ◌∙◌}
 use Rattle.std.specs.List.{list_any}
 use Rattle.body_places.specs.Tables.{constant_at}
-use Rattle.body_walks.specs.Seen.{met_seen}
+use Rattle.member_forms.specs.Bodies.{met_seen}
 use Rattle.name_sites.specs.View.{source_of}
 use Rattle.type_decl.specs.way.Telling.{tells}
 use Rattle.type_decl.proofs.Telling.{nothing_told}

@@ -1,10 +1,10 @@
 use Rattle.std.proofs.Common.{◌≡◌, ℕ, ◌<◌, length, map, true}
 use Rattle.std.specs.Prelude.{slice_get}
 use Rattle.name_sites.specs.View.{source_of}
-use Rattle.core_making.specs.Known.{frames_in}
+use Rattle.program_tables.specs.Known.{frames_in}
 use Rattle.class_typing.specs.Places.{round_met}
 use Rattle.type_decl.specs.way.Asked.{is_asked}
-use Rattle.body_walks.specs.Seen.{met_seen}
+use Rattle.member_forms.specs.Bodies.{met_seen}
 use Rattle.type_decl.proofs.told.rounds_asked.Given as goal
 
 abbrev pub invariant-loop-at : goal.invariant-loop-at

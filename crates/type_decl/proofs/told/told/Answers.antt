@@ -4,8 +4,8 @@ use Rattle.class_typing.specs.ConstantFields.{constants_of, field_value}
 use Rattle.class_typing.specs.Elaboration.{first_program, hidden_count, nothing_captured}
 use Rattle.class_typing.specs.Places.{round_met}
 use Rattle.type_decl.specs.way.Asked.{is_asked}
-use Rattle.core_making.specs.Known.{round_seen}
-use Rattle.body_walks.specs.Seen.{met_seen}
+use Rattle.program_tables.specs.Known.{round_seen}
+use Rattle.member_forms.specs.Bodies.{met_seen}
 use Rattle.name_sites.specs.View.{source_of}
 use Rattle.type_decl.proofs.Asking.{same_constants}
 use Rattle.type_decl.proofs.told.told.Goals as goal

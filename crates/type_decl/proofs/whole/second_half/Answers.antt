@@ -5,7 +5,7 @@ use Rattle.body_places.specs.Tables.{constant_at}
 use Rattle.class_typing.specs.ConstantFields.{constants_shifted}
 use Rattle.type_decl.specs.way.Seen.{bodies_met_seen}
 use Rattle.field_values.specs.Values.{count_at}
-use Rattle.core_making.specs.Known.{captured_seen}
+use Rattle.program_tables.specs.Known.{captured_seen}
 use Rattle.type_faults.specs.Program.{source_in}
 use Rattle.type_decl.specs.way.Halves.{code_with}
 use Rattle.type_decl.proofs.whole.second_half.Goals as goal

@@ -13,8 +13,8 @@ use Rattle.class_typing.specs.Places.{round_met}
 use Rattle.class_typing.specs.Programs.{library_count}
 use Rattle.declarations.specs.View.{class_shown}
 use Rattle.field_values.specs.Values.{count_at}
-use Rattle.core_making.specs.Known.{captured_seen, round_seen}
-use Rattle.body_walks.specs.Seen.{met_seen}
+use Rattle.program_tables.specs.Known.{captured_seen, round_seen}
+use Rattle.member_forms.specs.Bodies.{met_seen}
 use Rattle.name_sites.specs.View.{source_of}
 use Rattle.source_subtypes.specs.View.{heads_of}
 use Rattle.type_faults.specs.Program.{source_in}

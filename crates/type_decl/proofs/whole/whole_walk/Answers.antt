@@ -3,7 +3,7 @@ use Rattle.body_places.specs.Tables.{constant_at}
 use Rattle.class_spots.specs.Spots.{AreSpotsOf}
 use Rattle.class_heads.specs.View.{classes_of}
 use Rattle.je_scopes.specs.Source.{Source}
-use Rattle.core_making.specs.Known.{captured_seen}
+use Rattle.program_tables.specs.Known.{captured_seen}
 use Rattle.source_subtypes.specs.View.{heads_of}
 use Rattle.type_faults.specs.Program.{source_in}
 use Rattle.type_decl.proofs.Beginning.{methods_stay, source_is}

@@ -1,5 +1,5 @@
 use Rattle.std.proofs.lemmas.Result.{err_from_is_err_and}
-use Rattle.core_making.specs.Known.{known_seen}
+use Rattle.body_walks.specs.Known.{known_seen}
 use Rattle.type_expr.proofs.Assigning.{asked_faults, both_give}
 use Rattle.type_expr.proofs.assignments.assigned.Goals as goal
 
