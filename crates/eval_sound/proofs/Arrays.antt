@@ -175,7 +175,7 @@ module _ {S : Setting} (fit : Known S.program) where
   pub safe-filled : {c : Context} {w : List Obj} (element : Ty) (values : List Value) → is_variable_type S.program element ≡ true → element.dims < 255 → AllOf S element w values →
       Safe S c w (Fitting S.program (array_of element)) (filled element values)
   safe-filled element values variable few f =
-      bind_object (safe-new_object (λ later l. record { kind = an_array variable few; slots = (all-of-more l f).each }) own (agree-itself S.program fit (array_of element) refl)) λ later l o h. safe-ret _ h
+      bind_object (safe-new_object refl (λ later l. record { kind = an_array variable few; slots = (all-of-more l f).each }) own (agree-itself S.program fit (array_of element) refl)) λ later l o h. safe-ret _ h
     where
       less : nat_lt element.dims 255 ≡ true
       less = grind (arith, nat_tests)

@@ -31,7 +31,7 @@ use Rattle.je_java.specs.Raised.{class_cast}
 use Rattle.je_java.specs.Steps.{receiving_class, Nothing, ret, raise, admit, cast}
 use Rattle.je_sound.specs.Values.{ValueFits, ValuesFit}
 use Rattle.je_sound.proofs.Values.{defaults_fit}
-use Rattle.eval_sound.specs.Premises.{MemberIsSafe, ComesTo, Premises}
+use Rattle.eval_sound.specs.Premises.{MemberIsSafe, ComesTo, Premises, has_objects}
 use Rattle.eval_sound.specs.Safety.{Any, Setting, ResultFits, AllFitting, Context, OwnFits, Safe}
 use Rattle.eval_sound.proofs.Growth.{grows-on}
 use Rattle.eval_sound.proofs.Made.{bind_object, safe-deref, safe-raise}
@@ -200,13 +200,13 @@ module _ {S : Setting} (fit : Known S.program) where
     -- ---- calls
 
     pub safe-run_virtual : {c : Context} {w : List Obj} {this : Value} {given : List Value} (t : Ty) (class : ClassId) (at : ℕ) (named : CoreMethod) →
-        ((own : Ty) → agrees S.program own t ≡ true → ComesTo S (receiving_class own.dims own.base) class at) → method_at S.program class at ≡ Some named → named.flags.is_static ≡ false →
+        ((own : Ty) → has_objects own ≡ true → agrees S.program own t ≡ true → ComesTo S (receiving_class own.dims own.base) class at) → method_at S.program class at ≡ Some named → named.flags.is_static ≡ false →
         is_constructor S.program named ≡ false → is_reference t ≡ true → agrees S.program t (class_type class) ≡ true → ValueFits S.program w t this → AllFitting S.program named.params w given →
         Safe S c w (ResultFits S.program named.returns) (run_virtual S.program m class at this given)
     safe-run_virtual t class at named comes is instance plain r up f a =
         bind_object (safe-deref fit r f) λ w1 l1 o q.
         safe-bind (safe-get_receiving_class fit class up q) λ w2 l2 own r.
-        let from = subst (λ (k : ClassId). ComesTo S k class at) r.is (comes r.type r.of_type) in
+        let from = subst (λ (k : ClassId). ComesTo S k class at) r.is (comes r.type r.real r.of_type) in
         let d = dispatches fit premises own class at named from is instance plain r.agree r.kind in
         bind_need _ named (looked-up S.program class at named is) (bind_need _ d.member d.found (bind_need _ d.method d.there
         (safe-seq-with (safe-hand_on named d.method d.params (all-more (grows-on l1 l2) a)) λ w3 l3 u b.

@@ -26,7 +26,7 @@ use Rattle.je_java.specs.Texts.{is_string, concatenated}
 use Rattle.je_sound.specs.Values.{ValueFits}
 use Rattle.je_sound.proofs.Values.{agree-cases}
 use Rattle.eval_sound.specs.Nodes.{Every, EveryPart, EveryIf}
-use Rattle.eval_sound.specs.Premises.{ComesTo, Premises}
+use Rattle.eval_sound.specs.Premises.{ComesTo, Premises, has_objects}
 use Rattle.eval_sound.specs.Safety.{Any, Setting, Allowed, Grows, Fitting, Context, Safe}
 use Rattle.eval_sound.proofs.Arrays.{safe-read_element, safe-write_element}
 use Rattle.eval_sound.proofs.Expressions.{bind_object, bind_array, bind_int}
@@ -102,7 +102,7 @@ string-tested t = refl
 
 -- `toString()` is come to by objects of a type
 abbrev pub Comes : Setting → Ty → Type 0
-Comes S t = (own : Ty) → agrees S.program own t ≡ true → ComesTo S (receiving_class own.dims own.base) object_class to_string_place
+Comes S t = (own : Ty) → has_objects own ≡ true → agrees S.program own t ≡ true → ComesTo S (receiving_class own.dims own.base) object_class to_string_place
 
 -- ---- places
 

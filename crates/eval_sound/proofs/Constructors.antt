@@ -18,7 +18,7 @@ use Rattle.je_classes.proofs.Below.{below-from}
 use Rattle.je_classes.proofs.Lists.{contains-here}
 use Rattle.constructor_calls.specs.Calls.{is_call, is_call_statement, begins_with_call, is_plain_constructor, plain_from, placed_in, plain_constructor, is_constructor_there}
 use Rattle.je_fitting.specs.Expressions.{Body, Fits, call_exact, call_static, is_constructor}
-use Rattle.je_fitting.specs.Members.{HeadFits, head_call, BodyFits, a_block, behind_a_call, body_of}
+use Rattle.je_fitting.specs.Members.{HeadFits, head_call, BodyFits, a_block, behind_a_call, body_of, is_guest}
 use Rattle.je_fitting.specs.Statements.{no_targets, StatementFits, StatementsFit, no_statements, more_statements, block, perform}
 use Rattle.je_fitting.specs.Types.{agrees}
 use Rattle.je_fitting.proofs.Booleans.{two}
@@ -28,7 +28,7 @@ use Rattle.je_java.specs.Meaning.{Meanings, construct_by, constructor_from, init
 use Rattle.je_java.specs.Subclasses.{superclass_in, superclass_of}
 use Rattle.je_sound.specs.Values.{ValuesFit}
 use Rattle.eval_sound.specs.Nodes.{Every, Throughout}
-use Rattle.eval_sound.specs.Premises.{MemberIsSafe, Premises}
+use Rattle.eval_sound.specs.Premises.{IsOfLibrary, MemberIsSafe, Premises}
 use Rattle.eval_sound.specs.Safety.{Any, Setting, Allowed, AllFitting, Context, in_body, Safe}
 use Rattle.eval_sound.proofs.Bodies.{safe-run_constructor}
 use Rattle.eval_sound.proofs.Members.{guest-of-body, bodiless-constructor}
@@ -40,6 +40,7 @@ use Rattle.eval_sound.proofs.Starts.{instance-inits, safe-run_initializers}
 use Rattle.eval_sound.proofs.Statements.{AllRun, all-run, safe-block}
 use Rattle.eval_sound.proofs.Steps.{safe-get_this}
 use Rattle.eval_sound.proofs.Types.{Known, agree-itself, below-agrees, fits-above}
+use Rattle.library_fits.proofs.Table.{apart}
 
 -- ---- no expression that fits calls a constructor
 
@@ -134,6 +135,9 @@ module _ {S : Setting} (fit : Known S.program) (premises : Premises S) {m : Mean
     abbrev here : Context
     here = in_body (body_of S.program class constructor)
 
+    guest : (b : CoreStmt) → constructor.body ≡ Some b → is_guest class ≡ true
+    guest b e = guest-of-body S.program fit.whole class at constructor b (ap (λ o. slice_get (methods_in o) at) there ∙ its) e
+
     -- no other one is called by a word
     safe-above : (b : CoreStmt) → constructor.body ≡ Some b → begins_with_call S.program b ≡ false → (w : List Obj) → Safe S here w Any (construct_above S.program m (superclass_of S.program class))
     safe-above b e n w = subst (λ o. Safe S here w Any (construct_above S.program m o)) (sym (ap superclass_in there)) (by c.superclass refl)
@@ -145,15 +149,20 @@ module _ {S : Setting} (fit : Known S.program) (premises : Premises S) {m : Mean
             let h = plain-there S.program super f.0 f.1 in
             subst (λ o. Safe S here w Any (construct_by S.program m o [])) (sym f.1)
             (safe-construct_by f.0 h.method instance (subst (λ (x : ClassId). agrees S.program (class_type class) (class_type x) ≡ true) (sym h.of_super) (super-agrees class super c there q)) h.there h.con
-            (λ z. premises.library.above class super f.0 h.method (guest-of-body S.program fit.whole class at constructor b (ap (λ o. slice_get (methods_in o) at) there ∙ its) e) (ap superclass_in there ∙ q) f.1 (bodiless-constructor S.program fit.whole premises.no_native f.0.class f.0.at h.method h.there h.con z)) (record { each = subst (λ ts. ValuesFit S.program w ts []) (sym h.params) tt }))
+            (λ z. premises.library.above class f.0.class f.0.at h.method (guest b e) (ap superclass_in there ∙ q ∙ ap Some (sym h.of_super))
+            (bodiless-constructor S.program fit.whole premises.no_native f.0.class f.0.at h.method h.there h.con z) h.con) (record { each = subst (λ ts. ValuesFit S.program w ts []) (sym h.params) tt }))
 
     -- one is called
-    safe-called : {super : Option ClassId} {call : Core} (w : List Obj) → c.superclass ≡ super → HeadFits S.program (body_of S.program class constructor) super call → Every (Allowed S) call →
+    safe-called : {super : Option ClassId} {call : Core} (w : List Obj) → is_guest class ≡ true → c.superclass ≡ super → HeadFits S.program (body_of S.program class constructor) super call → Every (Allowed S) call →
         Safe S here w Any (constructor_from S.program m (form_of call) 0 [])
-    safe-called {super = super} w e (head_call {c = d} {n = n} {args = args} {m = k} is f which has con fs a) x =
+    safe-called {super = super} w own e (head_call {c = d} {n = n} {args = args} {m = k} is f which has con fs a) x =
         safe-values fit g k.params args _ [] fs x.1.1 a λ later l values r.
-        safe-construct_by (meaning.member_at d n) k instance (by which) has con (λ z. premises.library.named k x.0 (bodiless-constructor S.program fit.whole premises.no_native d n k has con z)) r
+        safe-construct_by (meaning.member_at d n) k instance (by which) has con (λ z. library (bodiless-constructor S.program fit.whole premises.no_native d n k has con z) which) r
       where
+        library : IsOfLibrary S.program d n k → (d ≡ class) ⊎ (super ≡ Some d) → MemberIsSafe S d n k
+        library of (inl q) = apart (subst (λ (x : ClassId). is_guest x ≡ true) (sym q) own) of.of_library
+        library of (inr q) = premises.library.above class d n k own (ap superclass_in there ∙ e ∙ q) of con
+
         by : (d ≡ class) ⊎ (super ≡ Some d) → agrees S.program (class_type class) (class_type d) ≡ true
         by (inl q) = subst (λ (x : ClassId). agrees S.program (class_type class) (class_type x) ≡ true) (sym q) (agree-itself S.program fit (class_type class) refl)
         by (inr q) = super-agrees class d c there (e ∙ q)
@@ -174,4 +183,4 @@ module _ {S : Setting} (fit : Known S.program) (premises : Premises S) {m : Mean
     constructor-safe e q (behind_a_call {locals = locals} {call = call} {parts = parts} {span' = span} {at' = place} code l head fs) x w =
         let form = core.Block locals (more_stmts (stmt (core.Do call) span place) parts) in
         subst (λ o. Safe S here w Any (build_by S.program m class form o)) (sym (is-called head))
-        (safe-seq (safe-called w e head x.0) λ later l. safe-completed form (is_of class (called_constructor (form_of call))) 1 (all-run fit g fs x.1))
+        (safe-seq (safe-called w (guest _ q) e head x.0) λ later l. safe-completed form (is_of class (called_constructor (form_of call))) 1 (all-run fit g fs x.1))

@@ -110,7 +110,7 @@ module _ {S : Setting} (fit : Known S.program) (premises : Premises S) {m : Mean
       let r = reference-below S.program (ty_of o) (class_type class) b in
       bind_part fit g f x.1.0 (real-reference (ty_of o) r) λ w1 l1 v q.
       safe-values fit g k.params args _ [] fs x.1.1 a λ w2 l2 values z.
-      safe-run_virtual fit premises g (ty_of o) class n k (λ own h. by_call own x.0 b h) is instance plain r (agree-below S.program (ty_of o) (class_type class) b) (fits-more l2 q) z
+      safe-run_virtual fit premises g (ty_of o) class n k (λ own y h. by_call own x.0 b y h) is instance plain r (agree-below S.program (ty_of o) (class_type class) b) (fits-more l2 q) z
 
   exact-on : {c : Context} {w : List Obj} {span at : Span} {o : Core} (class : ClassId) (n : ℕ) (args : Cores) (k : CoreMethod) → Fits S.program c.body o → is_subtype S.program (ty_of o) (class_type class) ≡ true →
       method_at S.program class n ≡ Some k → k.flags.is_abstract ≡ false → is_constructor S.program k ≡ false → AllFit S.program c.body args → all_agree S.program (types_of (list_of args)) k.params ≡ true →
@@ -119,7 +119,7 @@ module _ {S : Setting} (fit : Known S.program) (premises : Premises S) {m : Mean
   exact-on class n args k f b is concrete plain fs a x =
       bind_object fit g class f x.1.0 b λ w1 l1 v q.
       safe-values fit g k.params args _ [] fs x.1.1 a λ w2 l2 values r.
-      safe-run_exact fit premises g class n k is plain (λ e. premises.library.named k x.0 (bodiless S.program fit.whole premises.no_native class n k is concrete e)) (λ z. fits-more l2 q) r
+      safe-run_exact fit premises g class n k is plain (λ e. premises.library.named k x.0 (bodiless S.program fit.whole premises.no_native class n k is concrete e) plain) (λ z. fits-more l2 q) r
 
   exact-static : {c : Context} {w : List Obj} {span at : Span} (o : MaybeCore) (class : ClassId) (n : ℕ) (args : Cores) (k : CoreMethod) → MaybeFits S.program c.body class o → method_at S.program class n ≡ Some k →
       k.flags.is_static ≡ true → k.flags.is_abstract ≡ false → is_constructor S.program k ≡ false → AllFit S.program c.body args → all_agree S.program (types_of (list_of args)) k.params ≡ true →
@@ -127,11 +127,11 @@ module _ {S : Setting} (fit : Known S.program) (premises : Premises S) {m : Mean
   unfolding start_call apply
   exact-static _ class n args k nothing is its concrete plain fs a x =
       safe-values fit g k.params args _ [] fs x.1.1 a λ w2 l2 values r.
-      safe-run_exact fit premises g class n k is plain (λ e. premises.library.named k x.0 (bodiless S.program fit.whole premises.no_native class n k is concrete e)) (λ z. apart its z) r
+      safe-run_exact fit premises g class n k is plain (λ e. premises.library.named k x.0 (bodiless S.program fit.whole premises.no_native class n k is concrete e) plain) (λ z. apart its z) r
   exact-static _ class n args k (something f b) is its concrete plain fs a x =
       bind_object fit g class f x.1.0 b λ w1 l1 v q.
       safe-values fit g k.params args _ [] fs x.1.1 a λ w2 l2 values r.
-      safe-run_exact fit premises g class n k is plain (λ e. premises.library.named k x.0 (bodiless S.program fit.whole premises.no_native class n k is concrete e)) (λ z. apart its z) r
+      safe-run_exact fit premises g class n k is plain (λ e. premises.library.named k x.0 (bodiless S.program fit.whole premises.no_native class n k is concrete e) plain) (λ z. apart its z) r
 
   made-new : {c : Context} {w : List Obj} {word span at : Span} (class : ClassId) (n : ℕ) (args : Cores) (the_class : CoreClass) (k : CoreMethod) (captures : List CoreCapture) → class_at S.program class ≡ Some the_class →
       can_be_made the_class ≡ true → method_at S.program class n ≡ Some k → is_constructor S.program k ≡ true → AllFit S.program c.body args → all_agree S.program (types_of (list_of args)) k.params ≡ true →
@@ -140,9 +140,9 @@ module _ {S : Setting} (fit : Known S.program) (premises : Premises S) {m : Mean
   made-new class n args the_class k captures there made is con fs a captured x =
       safe-result (safe-values fit g k.params args _ [] fs x.1 a λ w2 l2 values r.
       safe-run_new fit premises g class n captures the_class k there made is con (λ e. record {
-        library = λ h. premises.library.made k x.0 (bodiless-constructor S.program fit.whole premises.no_native class n k is con e) h;
-        instances = λ h. premises.library.instances k x.0 (bodiless-constructor S.program fit.whole premises.no_native class n k is con e) h;
-        maker = λ h. premises.library.makers k x.0 (bodiless-constructor S.program fit.whole premises.no_native class n k is con e) h;
+        library = λ h. premises.library.made k x.0 (bodiless-constructor S.program fit.whole premises.no_native class n k is con e) con h;
+        instances = λ h. premises.library.instances k x.0 (bodiless-constructor S.program fit.whole premises.no_native class n k is con e) con h;
+        maker = λ h. premises.library.makers k x.0 (bodiless-constructor S.program fit.whole premises.no_native class n k is con e) con h;
       }) captured r)
 
   arrays : {c : Context} {w : List Obj} {span at : Span} (lengths : Cores) (t : Ty) → AllFit S.program c.body lengths → All (λ l. is_int l ≡ true) (types_of (list_of lengths)) →
@@ -179,7 +179,7 @@ module _ {S : Setting} (fit : Known S.program) (premises : Premises S) {m : Mean
       (λ f x'. step-safe fit premises g form t u s s' o old is f x'.1 a number one) f x.1.0)
   form-safe {c = c} (update {place = place} {operand = operand} {form = form} {t = t} {u = u} {o = o} {span' = s} {at' = s'} e f is a f' h) x w = safe-result
       (subst (λ k. Fits S.program c.body k → Every (Allowed S) k → Safe S c w (Fitting S.program u) (begin_update S.program m u (core.Update k o (a_core operand) false))) (sym e)
-      (λ f x'. update-safe fit premises g form t u s s' o operand is f x'.1 a f' x.1.1 h (λ z own y. by_target own x.0 z (subst (λ (k : Ty). agrees S.program own k ≡ true) (sym (ap ty_of e)) y)) (λ z own y. by_operand own x.0 z y)) f x.1.0)
+      (λ f x'. update-safe fit premises g form t u s s' o operand is f x'.1 a f' x.1.1 h (λ z own i y. by_target own x.0 z i (subst (λ (k : Ty). agrees S.program own k ≡ true) (sym (ap ty_of e)) y)) (λ z own i y. by_operand own x.0 z i y)) f x.1.0)
   form-safe (unary {o = o} {e = e} f h) x w = safe-result (bind_part fit g f x.1 (one-real o (ty_of e) h) λ w1 l1 v q. safe-unary o (ty_of e) h q)
   form-safe (binary {o = o} {l = l} {r = r} f f' h) x w =
       let k = taken (sort_of o) (ty_of l) (ty_of r) h in
@@ -196,7 +196,7 @@ module _ {S : Setting} (fit : Known S.program) (premises : Premises S) {m : Mean
       let y = two {a = (same_type (ty_of l) string || same_type (ty_of r) string) && not (is_void (ty_of l))} {b = not (is_void (ty_of r))} h in
       let z = two {a = same_type (ty_of l) string || same_type (ty_of r) string} {b = not (is_void (ty_of l))} y.0 in
       safe-result (bind_part fit g f x.1.0 (is_false z.1) λ w1 l1 a q. bind_part fit g f' x.1.1 (is_false y.1) λ w2 l2 b q'.
-      safe-concatenated fit (to_string S.program m) (tells fit premises g (ty_of l) (λ own y. by_left own x.0 y) _) (tells fit premises g (ty_of r) (λ own y. by_right own x.0 y) _) (fits-more l2 q) q')
+      safe-concatenated fit (to_string S.program m) (tells fit premises g (ty_of l) (λ own i y. by_left own x.0 i y) _) (tells fit premises g (ty_of r) (λ own i y. by_right own x.0 i y) _) (fits-more l2 q) q')
   form-safe (call_virtual {c = class} {n = n} {args = args} {m = k} f b is instance plain fs a) x w = virtual class n args k f b is instance plain fs a x
   form-safe (call_exact {c = class} {n = n} {args = args} {m = k} f b is instance concrete plain fs a) x w = exact-on class n args k f b is concrete plain fs a x
   form-safe (call_static {o = o} {c = class} {n = n} {args = args} {m = k} f is its concrete plain fs a) x w = exact-static o class n args k f is its concrete plain fs a x

@@ -23,7 +23,7 @@ use Rattle.je_java.specs.Steps.{receiving_class, Computation, bind, get_units}
 use Rattle.je_java.specs.Texts.{is_string, units_told, text_of, concatenated}
 use Rattle.je_sound.specs.Values.{ValueFits, ValuesFit}
 use Rattle.library_classes.specs.Library.{LibraryStands, all_due, rows}
-use Rattle.eval_sound.specs.Premises.{ComesTo, Premises}
+use Rattle.eval_sound.specs.Premises.{ComesTo, Premises, has_objects}
 use Rattle.eval_sound.specs.Safety.{Any, Setting, Fitting, Context, Safe}
 use Rattle.eval_sound.proofs.Bodies.{safe-run_virtual}
 use Rattle.eval_sound.proofs.Made.{bind_object, safe-make_text}
@@ -123,7 +123,7 @@ module _ {S : Setting} (fit : Known S.program) where
 
   -- `toString()` where the program comes to it
   pub tells : (premises : Premises S) {m : Meanings} (g : MeaningsAreSafe S m) (t : Ty) →
-      ((own : Ty) → agrees S.program own t ≡ true → ComesTo S (receiving_class own.dims own.base) object_class to_string_place) → (c : Context) → Tells S c t (to_string S.program m)
+      ((own : Ty) → has_objects own ≡ true → agrees S.program own t ≡ true → ComesTo S (receiving_class own.dims own.base) object_class to_string_place) → (c : Context) → Tells S c t (to_string S.program m)
   tells premises {m = m} g t comes c = record {
     told = λ w o r f.
         let d = has-to-string S.program fit.library in

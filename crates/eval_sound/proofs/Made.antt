@@ -67,11 +67,11 @@ module _ {S : Setting} (fit : Known S.program) where
       let slots = map (λ (field : CoreField). default_of field.ty) (slot_fields S.program (Some class)) in
       let fresh : fresh_slots S.program class ≡ Some slots = ap (begin_as (slot_fields S.program (Some class))) there in
       bind_need _ slots fresh (safe-seq (safe-charge (length slots)) λ later l.
-      safe-new_object (λ last l'. fresh_instances_fit S.program last class k slots fit.whole there made has fresh) refl (agree-itself S.program fit (class_type class) refl))
+      safe-new_object refl (λ last l'. fresh_instances_fit S.program last class k slots fit.whole there made has fresh) refl (agree-itself S.program fit (class_type class) refl))
 
   pub safe-make_text : {c : Context} {w : List Obj} (units : List ℕ) → Safe S c w (Referring S string) (make_text units)
   unfolding make_text
-  safe-make_text units = safe-seq (safe-charge (length units)) λ later l. safe-new_object (λ last l'. record { kind = a_text; slots = tt }) refl (string-itself S.program fit)
+  safe-make_text units = safe-seq (safe-charge (length units)) λ later l. safe-new_object refl (λ last l'. record { kind = a_text; slots = tt }) refl (string-itself S.program fit)
 
   pub safe-raise : {A : Type 0} {Q : List Obj → A → Type 0} {c : Context} {w : List Obj} (class : ClassId) → CanRaise S.program class → Safe S c w Q (raise S.program class)
   unfolding raise

@@ -16,6 +16,7 @@ use Rattle.je_table.specs.Library.{class_row}
 use Rattle.je_classes.specs.Hierarchy.{class_at, library_class, same_class, is_below, object_class}
 use Rattle.je_classes.specs.Subtypes.{class_type, array_of}
 use Rattle.je_classes.proofs.Below.{same_class-equal, below-to, below-from}
+use Rattle.je_fitting.specs.Classes.{IsInstanceMethod}
 use Rattle.je_fitting.specs.Expressions.{method_at, is_constructor, can_be_made}
 use Rattle.je_fitting.specs.Types.{agrees}
 use Rattle.je_fitting.proofs.ClassesDecided.{at-place}
@@ -30,8 +31,8 @@ use Rattle.je_sound.proofs.Library.{alone, there-too}
 use Rattle.je_sound.proofs.Values.{agree-on}
 use Rattle.je_sound.proofs.Members.{classes-agree, array-agrees, no-interface, object-above}
 use Rattle.library_classes.specs.Library.{LibraryStands, all_due, class_due, rows}
-use Rattle.eval_sound.specs.Premises.{Dispatches, ComesTo, Premises}
-use Rattle.eval_sound.specs.Safety.{Setting, Context, Safe, EndFits}
+use Rattle.eval_sound.specs.Premises.{Dispatches, ComesTo, Premises, has_objects}
+use Rattle.eval_sound.specs.Safety.{Setting, Context, Grows, HasDevice, Safe, EndFits}
 use Rattle.eval_sound.proofs.Growth.{grows-refl}
 use Rattle.eval_sound.proofs.Moves.{fits-more}
 use Rattle.eval_sound.proofs.Operators.{either-way}
@@ -85,24 +86,50 @@ module _ (p : CoreProgram) (s : LibraryStands p) where
       at : {d : ClassId} → k ≡ d → MadeDue s.number d → IsMade p k
       at e d = subst (λ (x : ClassId). IsMade p x) (sym e) (made-too d)
 
+-- a class of objects that are made, or a device's interface, where one was there at first
+pub data Kind (S : Setting) (own : ClassId) : Type 0 where
+  a_made : IsMade S.program own → Kind S own
+  a_device : HasDevice S.first → is_device_interface own ≡ true → Kind S own
+
 -- an object has the methods of a class, which stands below a class of which it is
 record Received (S : Setting) (class : ClassId) (object : ObjId) (objects : List Obj) (own : ClassId) : Type 0 where
   fits : ValueFits S.program objects (class_type own) (Ref object)
   agree : agrees S.program (class_type own) (class_type class) ≡ true
-  kind : IsMade S.program own ⊎ (is_device_interface own ≡ true)
+  kind : Kind S own
 
 -- the same of an object of a type
 pub record Receives (S : Setting) (t : Ty) (class : ClassId) (object : ObjId) (objects : List Obj) (own : ClassId) : Type 0 where
   pub type : Ty
+  pub real : has_objects type ≡ true
   pub of_type : agrees S.program type t ≡ true
   pub is : receiving_class type.dims type.base ≡ own
   pub fits : ValueFits S.program objects (class_type own) (Ref object)
   pub agree : agrees S.program (class_type own) (class_type class) ≡ true
-  pub kind : IsMade S.program own ⊎ (is_device_interface own ≡ true)
+  pub kind : Kind S own
+
+-- an object's type is one that an object has
+object-type : (objects : List Obj) (id : ℕ) (own : Ty) → type_of objects id ≡ Some own → has_objects own ≡ true
+object-type objects id own e = by (slice_get objects id) e
+  where
+    is : {t : Ty} → has_objects t ≡ true → Some t ≡ Some own → has_objects own ≡ true
+    is {t = t} h q = subst (λ (u : Ty). has_objects u ≡ true) (same_Some t own q) h
+
+    of-array : (element : Ty) (few : Bool) → (if few then Some (array_of element) else None) ≡ Some own → has_objects own ≡ true
+    of-array element true q = is {t = array_of element} refl q
+    of-array element false q = absurd cc
+
+    by : (x : Option Obj) → type_in x ≡ Some own → has_objects own ≡ true
+    by None q = absurd cc
+    by (Some (Instance k slots)) q = is refl q
+    by (Some (Array element slots)) q = of-array element (nat_lt element.dims 255) q
+    by (Some (Text units)) q = is refl q
+    by (Some (Builder units)) q = is refl q
+    by (Some (Row k slots)) q = is refl q
+    by (Some (Cap device k)) q = is refl q
 
 module _ {S : Setting} (fit : Known S.program) where
   received : (objects : List Obj) (o : ObjId) (class k : ClassId) (own : Ty) → type_of objects o.0 ≡ Some own → Some (class_type k) ≡ Some own → agrees S.program own (class_type class) ≡ true →
-      IsMade S.program k ⊎ (is_device_interface k ≡ true) → Received S class o objects (receiving_class own.dims own.base)
+      Kind S k → Received S class o objects (receiving_class own.dims own.base)
   received objects o class k own e q a kind =
       let is : class_type k ≡ own = same_Some (class_type k) own q in
       subst (λ (u : Ty). Received S class o objects (receiving_class u.dims u.base)) is (record {
@@ -111,9 +138,9 @@ module _ {S : Setting} (fit : Known S.program) where
         kind = kind;
       })
 
-  receives : (world : World) (o : ObjId) (class : ClassId) → Sound S.program world → (f : ValueFits S.program world.objects (class_type class) (Ref o)) →
+  receives : (world : World) (o : ObjId) (class : ClassId) → Sound S.program world → Grows S.first world.objects → (f : ValueFits S.program world.objects (class_type class) (Ref o)) →
       Received S class o world.objects (receiving_class f.own.dims f.own.base)
-  receives world o class s f = by (slice_get world.objects o.0) refl f.has
+  receives world o class s grown f = by (slice_get world.objects o.0) refl f.has
     where
       kind : (x : Obj) → slice_get world.objects o.0 ≡ Some x → IsObject S.program x
       kind x q = (at-place (ObjectFits S.program world.objects) world.objects o.0 x s.objects q).kind
@@ -139,21 +166,21 @@ module _ {S : Setting} (fit : Known S.program) where
           (subst (λ (d : ClassId). Received S d o world.objects object_class) (sym top) (record {
             fits = subst (λ (d : ClassId). ValueFits S.program world.objects (class_type d) (Ref o)) top f;
             agree = agree-itself S.program fit (class_type object_class) refl;
-            kind = inl (made-too S.program fit.library (object-due fit.library.number));
+            kind = a_made (made-too S.program fit.library (object-due fit.library.number));
           }))
       of-array element false h = absurd cc
 
       by : (x : Option Obj) → slice_get world.objects o.0 ≡ x → type_in x ≡ Some f.own → Received S class o world.objects (receiving_class f.own.dims f.own.base)
       by None q h = absurd cc
-      by (Some (Instance k slots)) q h = received world.objects o class k f.own f.has h f.agree (inl (of-instance k (Instance k slots) (kind _ q) slots refl))
+      by (Some (Instance k slots)) q h = received world.objects o class k f.own f.has h f.agree (a_made (of-instance k (Instance k slots) (kind _ q) slots refl))
       by (Some (Array element slots)) q h = of-array element (nat_lt element.dims 255) h
-      by (Some (Text units)) q h = received world.objects o class string_class f.own f.has h f.agree (inl (made-too S.program fit.library (string-due fit.library.number)))
-      by (Some (Builder units)) q h = received world.objects o class builder_class f.own f.has h f.agree (inl (made-too S.program fit.library (builder-due fit.library.number)))
-      by (Some (Row k slots)) q h = received world.objects o class k f.own f.has h f.agree (inl (row-made S.program fit.library k (of-row (kind _ q))))
+      by (Some (Text units)) q h = received world.objects o class string_class f.own f.has h f.agree (a_made (made-too S.program fit.library (string-due fit.library.number)))
+      by (Some (Builder units)) q h = received world.objects o class builder_class f.own f.has h f.agree (a_made (made-too S.program fit.library (builder-due fit.library.number)))
+      by (Some (Row k slots)) q h = received world.objects o class k f.own f.has h f.agree (a_made (row-made S.program fit.library k (of-row (kind _ q))))
         where
           of-row : IsObject S.program (Row k slots) → is_row_class k ≡ true
           of-row (a_row there is) = is
-      by (Some (Cap device k)) q h = received world.objects o class k f.own f.has h f.agree (inr (of-cap (kind _ q)))
+      by (Some (Cap device k)) q h = received world.objects o class k f.own f.has h f.agree (a_device (grown.devices (record { id = o.0; object = Cap device k; there = q; device = refl })) (of-cap (kind _ q)))
         where
           of-cap : IsObject S.program (Cap device k) → is_device_interface k ≡ true
           of-cap (a_capability there is) = is
@@ -165,17 +192,17 @@ module _ {S : Setting} (fit : Known S.program) where
     run = λ go exits g x. record {
       from = λ s l st.
           let now = fits-more l f in
-          let r = receives s.world o class st.world.sound (record { own = now.own; has = now.has; agree = agree-on fit.decided S.program (alone S.program fit.library) now.own t (class_type class) now.agree up }) in
+          let r = receives s.world o class st.world.sound st.world.grown (record { own = now.own; has = now.has; agree = agree-on fit.decided S.program (alone S.program fit.library) now.own t (class_type class) now.agree up }) in
           subst (λ y. EndFits S (on_some y (λ own. go (receiving_class own.dims own.base) s))) (sym now.has)
-          ((g s.world.objects l _ (record { type = now.own; of_type = now.agree; is = refl; fits = r.fits; agree = r.agree; kind = r.kind })).from s grows-refl st);
+          ((g s.world.objects l _ (record { type = now.own; real = object-type s.world.objects o.0 now.own now.has; of_type = now.agree; is = refl; fits = r.fits; agree = r.agree; kind = r.kind })).from s grows-refl st);
     };
   }
 
   -- the method that the object's class has
   pub dispatches : (premises : Premises S) (own class : ClassId) (at : ℕ) (named : CoreMethod) → ComesTo S own class at → method_at S.program class at ≡ Some named → named.flags.is_static ≡ false →
-      is_constructor S.program named ≡ false → agrees S.program (class_type own) (class_type class) ≡ true → IsMade S.program own ⊎ (is_device_interface own ≡ true) → Dispatches S own class at named
-  dispatches premises own class at named names is instance method agree (inr device) = premises.library.devices own class at named names device agree is
-  dispatches premises own class at named names is instance method agree (inl k) =
+      is_constructor S.program named ≡ false → agrees S.program (class_type own) (class_type class) ≡ true → Kind S own → Dispatches S own class at named
+  dispatches premises own class at named names is instance method agree (a_device first device) = premises.library.devices first own class at named names device agree is
+  dispatches premises own class at named names is instance method agree (a_made k) =
       let d = calls_are_dispatched S.program own class k.class at named fit.whole k.there k.made below is instance method in
       let r = reached S.program fit.whole own class k.class at named k.there k.made (below-to S.program own class below) is method d.0 d.1 d.3 d.2 in
       record {
@@ -188,7 +215,7 @@ module _ {S : Setting} (fit : Known S.program) where
         plain = r.plain;
         params = d.4.params;
         result = d.4.result;
-        library = λ none. premises.library.dispatched_to own class at k.class d.0 d.1 names k.there k.made d.2 (bodiless S.program fit.whole premises.no_native d.0.class d.0.at d.1 d.3 d.4.concrete none);
+        library = λ none. premises.library.dispatched_to own class at named k.class d.0 d.1 names k.there k.made called d.2 (bodiless S.program fit.whole premises.no_native d.0.class d.0.at d.1 d.3 d.4.concrete none);
       }
     where
       below : is_below S.program own class ≡ true
@@ -197,6 +224,9 @@ module _ {S : Setting} (fit : Known S.program) where
           by : (same_class class object_class ≡ true) ⊎ (is_below S.program own class ≡ true) → is_below S.program own class ≡ true
           by (inl h) = subst (λ (x : ClassId). is_below S.program own x ≡ true) (sym (same_class-equal class object_class h)) (object-above S.program fit.whole own k.class k.there (no-interface k.class k.made))
           by (inr h) = h
+
+      called : IsInstanceMethod S.program own class at named
+      called = record { there = is; is_above = below; own = instance; no_constructor = method }
 
       up : (d : ClassId) → is_below S.program own d ≡ true → agrees S.program (class_type own) (class_type d) ≡ true
       up d h = below-agrees S.program own d h

@@ -17,7 +17,7 @@ use Rattle.je_sound.specs.Values.{ValueFits}
 use Rattle.je_sound.specs.Worlds.{Sound, static_types}
 use Rattle.je_sound.proofs.Lists.{zip-at, zip-set}
 use Rattle.je_sound.proofs.Worlds.{new_objects_keep, slots_hold, writes_keep, statics_hold, static_writes_keep}
-use Rattle.eval_sound.specs.Safety.{Any, Setting, Grows, Fitting, Context, OwnFits, StateFits, EndFits, spent, GoesOn, Safe}
+use Rattle.eval_sound.specs.Safety.{Any, Setting, is_device, Grows, Fitting, Context, OwnFits, StateFits, EndFits, spent, GoesOn, Safe}
 use Rattle.eval_sound.proofs.Growth.{grows-refl, grows-on, grows-made, grows-written}
 use Rattle.eval_sound.proofs.Moves.{Quiet, any, fits-more, own-more}
 
@@ -159,13 +159,13 @@ module _ {S : Setting} where
   unfolding put_started
   quiet-put_started class = record { run = λ go exits g. record { from = λ s l st. (g s.world.objects l tt any).from _ grows-refl (same-outside (with_started s.outside class) st) } }
 
-  pub safe-new_object : {c : Context} {w : List Obj} {t own : Ty} {object : Obj} → ((later : List Obj) → Grows w later → ObjectFits S.program later object) →
+  pub safe-new_object : {c : Context} {w : List Obj} {t own : Ty} {object : Obj} → is_device object ≡ false → ((later : List Obj) → Grows w later → ObjectFits S.program later object) →
       type_in (Some object) ≡ Some own → agrees S.program own t ≡ true → Safe S c w (Referring S t) (new_object object)
   unfolding new_object
-  safe-new_object {t = t} {own = own} {object = object} h e f = record {
+  safe-new_object {t = t} {own = own} {object = object} plain h e f = record {
     run = λ go exits g x. record {
       from = λ s l st.
-          let on = grows-made s.world.objects (object ∷ []) in
+          let on = grows-made s.world.objects object plain in
           let there : type_of (s.world.objects ++ object ∷ []) (length s.world.objects) ≡ Some own = ap type_in (last s.world.objects object) ∙ e in
           let it : ValueFits S.program (s.world.objects ++ object ∷ []) t (Ref (record { 0 = length s.world.objects })) = record { own = own; has = there; agree = f } in
           (g _ (grows-on l on) (record { 0 = length s.world.objects }) it).from _ grows-refl (record {

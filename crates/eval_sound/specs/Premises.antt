@@ -1,9 +1,11 @@
 -- What evaluation rests on beside a program that fits: what the library's members do, and a few things that are true of each program
 -- which is elaborated from a source.
-use Rattle.std.specs.Prelude.{◌≡◌, ◌≤◌, ℕ, Bool, true, false, List, Some, None, slice_get}
+use Rattle.std.specs.Prelude.{◌≡◌, ◌≤◌, ℕ, zero, suc, Bool, true, false, List, Some, None, slice_get}
 use Rattle.je_base.specs.declared.span.Span.{Span}
 use Rattle.je_core.specs.declared.expr.BinOp.{BinOp}
 use Rattle.je_core.specs.declared.object.Obj.{Obj}
+use Rattle.je_core.specs.declared.types.Base.{Base}
+use Rattle.je_core.specs.declared.types.Base.TheVariants as base
 use Rattle.je_core.specs.declared.types.ClassId.{ClassId}
 use Rattle.je_core.specs.declared.types.Ty.{Ty}
 use Rattle.je_core.specs.declared.value.Value.{Value}
@@ -15,7 +17,7 @@ use Rattle.je_classes.specs.Hierarchy.{class_at, object_class}
 use Rattle.je_classes.specs.Members.{Member, method_of}
 use Rattle.je_classes.specs.Subtypes.{class_type, is_subtype}
 use Rattle.constructor_calls.specs.Calls.{begins_with_call, plain_constructor}
-use Rattle.je_fitting.specs.Classes.{same_places}
+use Rattle.je_fitting.specs.Classes.{IsInstanceMethod, same_places}
 use Rattle.je_fitting.specs.Expressions.{method_at, is_constructor, can_be_made}
 use Rattle.je_fitting.specs.Members.{is_guest, results_agree}
 use Rattle.je_fitting.specs.Types.{agrees}
@@ -28,13 +30,22 @@ use Rattle.je_java.specs.Texts.{is_string}
 use Rattle.je_sound.specs.Objects.{has_instances, is_device_interface}
 use Rattle.je_sound.specs.Values.{ValueFits}
 use Rattle.eval_sound.specs.Nodes.{Throughout}
-use Rattle.eval_sound.specs.Safety.{Setting, Allowed, ResultFits, Fitting, AllFitting, Context, Safe}
+use Rattle.eval_sound.specs.Safety.{Setting, Allowed, HasDevice, ResultFits, Fitting, AllFitting, Context, Safe}
 
 -- a method or constructor of a class of the library, which isn't abstract
 pub record IsOfLibrary (program : CoreProgram) (class : ClassId) (at : ℕ) (method : CoreMethod) : Type 0 where
   pub there : method_at program class at ≡ Some method
   pub of_library : is_guest class ≡ false
   pub concrete : method.flags.is_abstract ≡ false
+
+abbrev pub has_objects_of : Base → ℕ → Bool
+has_objects_of b (suc n) = true
+has_objects_of (base.Class class) zero = true
+has_objects_of _ zero = false
+
+-- a type that an object has: a class or an array (JLS 4.3.1)
+abbrev pub has_objects : Ty → Bool
+has_objects t = has_objects_of t.base t.dims
 
 -- No method is native (JLS 8.4.3.4).
 abbrev pub NoneNative : CoreProgram → Type 0
@@ -77,59 +88,60 @@ module _ (setting : Setting) where
     by_call : (own : Ty) {receiver : Core} {class : ClassId} {at : ℕ} {args : Cores} {t : Ty} {span place : Span} →
         Allowed setting (node (core.CallVirtual receiver class at args) t span place) →
         is_subtype setting.program (ty_of receiver) (class_type class) ≡ true →
-        agrees setting.program own (ty_of receiver) ≡ true → ComesTo (receiving_class own.dims own.base) class at
+        has_objects own ≡ true → agrees setting.program own (ty_of receiver) ≡ true → ComesTo (receiving_class own.dims own.base) class at
     by_left : (own : Ty) {left right : Core} {t : Ty} {span place : Span} →
         Allowed setting (node (core.Concat left right) t span place) →
-        agrees setting.program own (ty_of left) ≡ true →
+        has_objects own ≡ true → agrees setting.program own (ty_of left) ≡ true →
         ComesTo (receiving_class own.dims own.base) object_class to_string_place
     by_right : (own : Ty) {left right : Core} {t : Ty} {span place : Span} →
         Allowed setting (node (core.Concat left right) t span place) →
-        agrees setting.program own (ty_of right) ≡ true →
+        has_objects own ≡ true → agrees setting.program own (ty_of right) ≡ true →
         ComesTo (receiving_class own.dims own.base) object_class to_string_place
     by_target : (own : Ty) {target operand : Core} {op : BinOp} {gives_old : Bool} {t : Ty} {span place : Span} →
         Allowed setting (node (core.Update target op (a_core operand) gives_old) t span place) → is_string t ≡ true →
-        agrees setting.program own (ty_of target) ≡ true →
+        has_objects own ≡ true → agrees setting.program own (ty_of target) ≡ true →
         ComesTo (receiving_class own.dims own.base) object_class to_string_place
     by_operand : (own : Ty) {target operand : Core} {op : BinOp} {gives_old : Bool} {t : Ty} {span place : Span} →
         Allowed setting (node (core.Update target op (a_core operand) gives_old) t span place) → is_string t ≡ true →
-        agrees setting.program own (ty_of operand) ≡ true →
+        has_objects own ≡ true → agrees setting.program own (ty_of operand) ≡ true →
         ComesTo (receiving_class own.dims own.base) object_class to_string_place
 
   -- A member of the library that can run is safe where the program comes to it.
   pub record LibraryIsSafe : Type 0 where
     -- as the method that an object's class has
-    pub dispatched_to : (own class : ClassId) (at : ℕ) (o : CoreClass) (member : Member) (method : CoreMethod) →
-        ComesTo own class at → class_at setting.program own ≡ Some o →
-        can_be_made o ≡ true → dispatched setting.program own (member_at class at) ≡ Some member →
+    pub dispatched_to : (own class : ClassId) (at : ℕ) (named : CoreMethod) (o : CoreClass) (member : Member) (method : CoreMethod) →
+        ComesTo own class at → class_at setting.program own ≡ Some o → can_be_made o ≡ true →
+        IsInstanceMethod setting.program own class at named →
+        dispatched setting.program own (member_at class at) ≡ Some member →
         IsOfLibrary setting.program member.class member.at method →
         MemberIsSafe member.class member.at method
-    -- as a device's
-    pub devices : (own class : ClassId) (at : ℕ) (named : CoreMethod) → ComesTo own class at →
+    -- as a device's, where one was there at first
+    pub devices : HasDevice setting.first → (own class : ClassId) (at : ℕ) (named : CoreMethod) → ComesTo own class at →
         is_device_interface own ≡ true → agrees setting.program (class_type own) (class_type class) ≡ true →
         method_at setting.program class at ≡ Some named → Dispatches own class at named
     -- as the named one itself
     pub named : {receiver : MaybeCore} {class : ClassId} {at : ℕ} {args : Cores} {t : Ty} {span place : Span} (method : CoreMethod) →
         Allowed setting (node (core.CallExact receiver class at args) t span place) →
-        IsOfLibrary setting.program class at method → MemberIsSafe class at method
+        IsOfLibrary setting.program class at method → is_constructor setting.program method ≡ false →
+        MemberIsSafe class at method
     -- as a constructor of a new instance, and as one that makes it itself
     pub made : {class : ClassId} {at : ℕ} {args : Cores} {captures : List CoreCapture} {word span place : Span} {t : Ty} (constructor : CoreMethod) →
         Allowed setting (node (core.New class at args captures word) t span place) →
-        IsOfLibrary setting.program class at constructor →
+        IsOfLibrary setting.program class at constructor → is_constructor setting.program constructor ≡ true →
         has_own_makers class ≡ false → MemberIsSafe class at constructor
     pub instances : {class : ClassId} {at : ℕ} {args : Cores} {captures : List CoreCapture} {word span place : Span} {t : Ty} (constructor : CoreMethod) →
         Allowed setting (node (core.New class at args captures word) t span place) →
-        IsOfLibrary setting.program class at constructor →
+        IsOfLibrary setting.program class at constructor → is_constructor setting.program constructor ≡ true →
         has_own_makers class ≡ false → has_instances setting.program class ≡ true
     pub makers : {class : ClassId} {at : ℕ} {args : Cores} {captures : List CoreCapture} {word span place : Span} {t : Ty} (constructor : CoreMethod) →
         Allowed setting (node (core.New class at args captures word) t span place) →
-        IsOfLibrary setting.program class at constructor →
+        IsOfLibrary setting.program class at constructor → is_constructor setting.program constructor ≡ true →
         has_own_makers class ≡ true → MakerIsSafe class at constructor
-    -- as the constructor of a guest's superclass that is called by no word
-    pub above : (sub class : ClassId) (member : Member) (constructor : CoreMethod) → is_guest sub ≡ true →
+    -- as a constructor of a guest's superclass, which one of the guest's begins with (JLS 8.8.7)
+    pub above : (sub class : ClassId) (at : ℕ) (constructor : CoreMethod) → is_guest sub ≡ true →
         superclass_of setting.program sub ≡ Some class →
-        plain_constructor setting.program (Some class) ≡ Some member →
-        IsOfLibrary setting.program member.class member.at constructor →
-        MemberIsSafe member.class member.at constructor
+        IsOfLibrary setting.program class at constructor → is_constructor setting.program constructor ≡ true →
+        MemberIsSafe class at constructor
 
   -- No array that an expression makes has more than 255 dimensions (JVM's limit, which `u8` keeps).
   pub record FewDimensions : Type 0 where

@@ -3,6 +3,7 @@
 use Rattle.std.specs.Prelude.{◌≡◌, ℕ, Bool, true, false, List, length, Option, Some, None, slice_get}
 use Rattle.je_base.specs.declared.span.NameId.{NameId}
 use Rattle.je_core.specs.declared.object.Obj.{Obj}
+use Rattle.je_core.specs.declared.object.Obj.TheVariants.{Cap}
 use Rattle.je_core.specs.declared.types.ClassId.{ClassId}
 use Rattle.je_core.specs.declared.types.Ty.{Ty}
 use Rattle.je_core.specs.declared.value.ObjId.{ObjId}
@@ -52,9 +53,22 @@ pub record HasShape (objects : List Obj) (id : ℕ) (shape : Shape) : Type 0 whe
   pub there : slice_get objects id ≡ Some object
   pub alike : shape_of object ≡ shape
 
--- Objects are made and none goes, and each keeps its shape.
+-- a capability for a device
+abbrev pub is_device : Obj → Bool
+is_device (Cap device class) = true
+is_device _ = false
+
+-- a device is among the objects
+pub record HasDevice (objects : List Obj) : Type 0 where
+  pub id : ℕ
+  pub object : Obj
+  pub there : slice_get objects id ≡ Some object
+  pub device : is_device object ≡ true
+
+-- Objects are made and none goes, and each keeps its shape. A device is there only where one was there before.
 pub record Grows (objects later : List Obj) : Type 0 where
   pub kept : (id : ℕ) (object : Obj) → slice_get objects id ≡ Some object → HasShape later id (shape_of object)
+  pub devices : HasDevice later → HasDevice objects
 
 -- what a node of a type comes to: a value that fits, but where it gives nothing, and then nothing reads it (JLS 15.1)
 pub record ResultFits (program : CoreProgram) (t : Ty) (objects : List Obj) (value : Value) : Type 0 where

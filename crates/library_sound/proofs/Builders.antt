@@ -31,7 +31,7 @@ module _ {S : Setting} (fit : Known S.program) where
   pub safe-new_builder : {c : Context} {w : List Obj} (units : List ℕ) → Safe S c w (Fitting S.program builder) (new_builder units)
   unfolding new_builder
   safe-new_builder units = safe-seq (safe-charge (length units)) λ later l.
-      bind_object (safe-new_object {object = Builder units} (λ last l'. record { kind = a_builder; slots = tt }) refl (agree-itself S.program fit builder refl)) λ last l' o h. safe-ret _ h
+      bind_object (safe-new_object {object = Builder units} refl (λ last l'. record { kind = a_builder; slots = tt }) refl (agree-itself S.program fit builder refl)) λ last l' o h. safe-ret _ h
 
   pub safe-builder_of_text : {c : Context} {w : List Obj} {given : List Value} → IsGiven S w given 0 string → Safe S c w (Fitting S.program builder) (builder_of_text S.program given)
   unfolding builder_of_text

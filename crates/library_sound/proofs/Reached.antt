@@ -1,25 +1,22 @@
 -- The constructors of the library are tame, and those that are handed their object have instances; so what a program makes is safe.
-use Rattle.std.proofs.Common.{◌≡◌, ◌+◌, ℕ, suc, List, [], ◌∷◌, Option, Some, None, refl, sym, ap, subst, ◌∙◌, arith}
-use Rattle.std.specs.Prelude.{Bool, true, false, not, ◌||◌, slice_get, if◌then◌else◌}
+use Rattle.std.proofs.Common.{◌≡◌, ℕ, List, Option, Some, None, refl, sym, ap, subst, ◌∙◌}
+use Rattle.std.specs.Prelude.{Bool, true, false, not, ◌&&◌, ◌||◌}
 use Rattle.std.specs.List.{list_all}
 use Rattle.std.proofs.lemmas.Bool.{or_left, or_right}
 use Rattle.std.proofs.lemmas.Option.{same_Some}
 use Rattle.je_base.specs.declared.span.NameId.{NameId}
 use Rattle.je_core.specs.declared.types.ClassId.{ClassId}
-use Rattle.je_core.specs.Core.{CoreClass, CoreMethod, CoreProgram}
+use Rattle.je_core.specs.Core.{CoreClass, CoreMethod}
 use Rattle.je_table.specs.Library.{Class, classes}
 use Rattle.je_table.specs.Library as table
 use Rattle.je_table.specs.Rows.{Row}
 use Rattle.je_classes.specs.Hierarchy.{class_at, library_class, object_class, same_class}
 use Rattle.je_classes.specs.Laws.{SubtypesAreDecided}
-use Rattle.je_classes.specs.Members.{Member, methods_of}
-use Rattle.je_classes.proofs.Below.{below-from}
+use Rattle.je_classes.proofs.Below.{below-from, below-to}
 use Rattle.je_classes.proofs.Lists.{bool_cases}
-use Rattle.constructor_calls.specs.Calls.{is_plain_constructor, placed_in, plain_constructor, plain_from}
 use Rattle.je_fitting.specs.Classes.{SuperclassFits, can_be_extended, one_above}
-use Rattle.je_fitting.specs.Expressions.{is_constructor, is_interface_sort, method_at}
+use Rattle.je_fitting.specs.Expressions.{is_constructor, is_interface_sort}
 use Rattle.je_fitting.specs.Members.{is_guest}
-use Rattle.je_fitting.proofs.Booleans.{two}
 use Rattle.je_java.specs.LibraryMembers.{has_own_makers, member_row}
 use Rattle.je_java.specs.Subclasses.{superclass_in, superclass_of}
 use Rattle.je_java.specs.library.Throwables.{throwable_class as thrown_class}
@@ -35,8 +32,9 @@ use Rattle.eval_sound.specs.Premises.{IsOfLibrary, MemberIsSafe}
 use Rattle.eval_sound.specs.Safety.{Setting}
 use Rattle.eval_sound.proofs.Evaluation.{known}
 use Rattle.eval_sound.proofs.Operators.{either-way}
+use Rattle.eval_sound.proofs.Reached.{reached}
 use Rattle.eval_sound.proofs.Types.{Known}
-use Rattle.library_sound.specs.Laws.{IsTame, IsTameMember, OthersAreTame, TameIsSafe}
+use Rattle.library_sound.specs.Laws.{IsTame, OthersAreTame, TameIsSafe}
 use Rattle.library_sound.proofs.Cases.{Case, abstract, is_tame_in, maker, member, method, wild}
 use Rattle.library_sound.proofs.Members.{case-of, makers_are_safe, members_are_safe}
 use Rattle.library_sound.proofs.Throwables.{below-throwable, climbs}
@@ -92,31 +90,6 @@ closed-classes : all_from is_closed_class 0 classes ≡ true
 unfolding has_own_makers
 closed-classes = refl
 
--- a plain constructor that was found
-record PlainAt (n : ℕ) (ms : List CoreMethod) (i : ℕ) : Type 0 where
-  at : ℕ
-  place : i ≡ n + at
-  method : CoreMethod
-  there : slice_get ms at ≡ Some method
-
-module _ (p : CoreProgram) where
-  record IsPlainAt (n : ℕ) (ms : List CoreMethod) (i : ℕ) : Type 0 where
-    found : PlainAt n ms i
-    constructor : is_constructor p found.method ≡ true
-
-  plain-at : (n : ℕ) (ms : List CoreMethod) (i : ℕ) → plain_from p n ms ≡ Some i → IsPlainAt n ms i
-  plain-at n [] i e = absurd cc
-  plain-at n (m ∷ ms) i e = by (is_plain_constructor p m) refl e (plain-at (suc n) ms i)
-    where
-      by : (b : Bool) → is_plain_constructor p m ≡ b → (if b then Some n else plain_from p (suc n) ms) ≡ Some i → (plain_from p (suc n) ms ≡ Some i → IsPlainAt (suc n) ms i) → IsPlainAt n (m ∷ ms) i
-      by true q h more =
-          let same : n ≡ i = same_Some n i h in
-          record { found = record { at = 0; place = omega (arith, same); method = m; there = refl }; constructor = (two {a = is_constructor p m} q).0 }
-      by false q h more =
-          let r = more h in
-          let s : i ≡ suc n + r.found.at = r.found.place in
-          record { found = record { at = suc r.found.at; place = omega (arith, s); method = r.found.method; there = r.found.there }; constructor = r.constructor }
-
 module _ (S : Setting) (fit : Known S.program) where
   -- a constructor by its row
   maker-row : (k : ClassId) (at : ℕ) (m : CoreMethod) (im : IsMethod fit.decided S.program fit.library k at m) → is_constructor S.program m ≡ true → is_maker im.row ≡ true
@@ -169,47 +142,32 @@ module _ (S : Setting) (fit : Known S.program) where
           let no : can_be_extended (Some (class_due fit.library.number class.0 r.row)) ≡ false = bool_cases (λ b. not (b || r.row.is_final) ≡ false) (is_interface_sort (sort_due r.row)) (λ _. refl) (λ _. rw final refl) in
           apart wide no
 
-  record IsAbove (class : ClassId) (found : Member) : Type 0 where
-    class_is : class ≡ found.class
-    constructor : (m : CoreMethod) → method_at S.program found.class found.at ≡ Some m → is_constructor S.program m ≡ true
-
-  above-is : (class : ClassId) (found : Member) → plain_constructor S.program (Some class) ≡ Some found → IsAbove class found
-  above-is class found e = by (plain_from S.program 0 (methods_of S.program class)) refl e
-    where
-      by : (o : Option ℕ) → plain_from S.program 0 (methods_of S.program class) ≡ o → placed_in S.program class o ≡ Some found → IsAbove class found
-      by None q h = absurd cc
-      by (Some i) q h =
-          let x = plain-at S.program 0 (methods_of S.program class) i q in
-          let place : i ≡ 0 + x.found.at = x.found.place in
-          let at : x.found.at ≡ i = omega (arith, place) in
-          let is : (let m : Member = record { class = class; at = i } in m) ≡ found = same_Some _ found h in
-          record {
-            class_is = ap (λ (m : Member). m.class) is;
-            constructor = λ m e.
-                let there : slice_get (methods_of S.program class) i ≡ Some m = subst (λ (y : Member). slice_get (methods_of S.program y.class) y.at ≡ Some m) (sym is) e in
-                subst (λ (y : CoreMethod). is_constructor S.program y ≡ true) (same_Some x.found.method m (sym x.found.there ∙ ap (slice_get (methods_of S.program class)) at ∙ there)) x.constructor;
-          }
-
 -- ---- the library is safe
 
 pub tame_is_safe : SubtypesAreDecided → TameIsSafe
 tame_is_safe decided S f comes = record {
-  dispatched_to = λ own class at o target method c there made d of. let t = comes.dispatched_to own class at o target method c there made d of in called target.class target.at method of t;
+  dispatched_to = λ own class at named o target method c there made called d of.
+      let r = reached S.program f.whole own class o at named there made (below-to S.program own class called.is_above) called.there called.no_constructor target method of.there d in
+      ordinary target.class target.at method of (comes.dispatched_to own class at named o target method c there made called d of) r.plain;
   devices = comes.devices;
-  named = λ {receiver = receiver} {class = class} {at = at} method allowed of. called class at method of (comes.named method allowed of);
-  made = λ {class = class} {at = at} constructor allowed of own.
-      called class at constructor of (record { tame = tame-constructor S fit class at constructor of (comes.made constructor allowed of); handed = rw own refl });
-  instances = λ {class = class} {at = at} constructor allowed of own. made-instance S fit class at constructor of (comes.made constructor allowed of) own;
-  makers = λ {class = class} {at = at} constructor allowed of own.
-      let is = comes.made constructor allowed of in makers_are_safe decided S f class at constructor of (tame-constructor S fit class at constructor of is) own is;
-  above = λ sub class target constructor g super plain of.
-      let a = above-is S fit class target plain in
-      let own = subst (λ (d : ClassId). has_own_makers d ≡ false) a.class_is (handed-above S fit sub class super (subst (λ (d : ClassId). is_guest d ≡ false) (sym a.class_is) of.of_library)) in
-      called target.class target.at constructor of (record { tame = tame-constructor S fit target.class target.at constructor of (a.constructor constructor of.there); handed = rw own refl });
+  named = λ {receiver = receiver} {class = class} {at = at} method allowed of plain. ordinary class at method of (comes.named method allowed of plain) plain;
+  made = λ {class = class} {at = at} constructor allowed of is own. handed class at constructor of is own;
+  instances = λ {class = class} {at = at} constructor allowed of is own. made-instance S fit class at constructor of is own;
+  makers = λ {class = class} {at = at} constructor allowed of is own. makers_are_safe decided S f class at constructor of (tame-constructor S fit class at constructor of is) own is;
+  above = λ sub class at constructor guest super of is. handed class at constructor of is (handed-above S fit sub class super of.of_library);
 }
   where
     fit : Known S.program
     fit = known decided f
 
-    called : (class : ClassId) (at : ℕ) (m : CoreMethod) → IsOfLibrary S.program class at m → IsTameMember S.program class at m → MemberIsSafe S class at m
-    called class at m of t = members_are_safe decided S f class at m of t.tame t.handed
+    -- a method
+    ordinary : (class : ClassId) (at : ℕ) (m : CoreMethod) → IsOfLibrary S.program class at m → IsTame class at → is_constructor S.program m ≡ false → MemberIsSafe S class at m
+    ordinary class at m of tame plain = members_are_safe decided S f class at m of tame (bool_cases (λ b. (has_own_makers class && b) ≡ false) (is_constructor S.program m) (λ q. apart q plain) (λ q. neither (has_own_makers class)))
+      where
+        neither : (b : Bool) → (b && false) ≡ false
+        neither true = refl
+        neither false = refl
+
+    -- a constructor that is handed its object
+    handed : (class : ClassId) (at : ℕ) (m : CoreMethod) → IsOfLibrary S.program class at m → is_constructor S.program m ≡ true → has_own_makers class ≡ false → MemberIsSafe S class at m
+    handed class at m of is own = members_are_safe decided S f class at m of (tame-constructor S fit class at m of is) (rw own refl)

@@ -111,7 +111,7 @@ module _ {S : Setting} (fit : Known S.program) (k : ClassId) (due : FinalDue fit
   pub safe-new_row : {c : Context} {w : List Obj} {given : List Value} → IsGiven S w given 0 (array_of (row_type k)) → Safe S c w (Fitting S.program (class_type k)) (new_row S.program k given)
   unfolding new_row
   safe-new_row h = safe-bind (safe-elements fit h) λ later l values a. safe-seq (safe-charge (length values)) λ last l'.
-      bind_object (safe-new_object {object = Row k values} (λ end l''. let b = all-of-more fit (grows-on l' l'') a in record {
+      bind_object (safe-new_object {object = Row k values} refl (λ end l''. let b = all-of-more fit (grows-on l' l'') a in record {
         kind = a_row (ap is_some (there-too S.program fit.library k due.class due.there)) is.rows;
         slots = b.each;
       }) refl (agree-itself S.program fit (class_type k) refl)) λ end l'' o g. safe-ret _ g

@@ -1,6 +1,6 @@
 -- Which members of the library are tame, and that these are safe. A wild member tells worlds apart, or the time, so evaluation
 -- gives it no meaning.
-use Rattle.std.specs.Prelude.{◌≡◌, ◌&&◌, ℕ, List, Bool, not, true, false, Some}
+use Rattle.std.specs.Prelude.{◌≡◌, ◌&&◌, ℕ, Bool, not, true, false, Some}
 use Rattle.je_base.specs.declared.span.Span.{Span}
 use Rattle.je_core.specs.declared.types.ClassId.{ClassId}
 use Rattle.je_core.specs.declared.types.Ty.{Ty}
@@ -11,6 +11,7 @@ use Rattle.je_classes.specs.Dispatch.{dispatched}
 use Rattle.je_classes.specs.Hierarchy.{class_at}
 use Rattle.je_classes.specs.Members.{Member}
 use Rattle.je_classes.specs.Subtypes.{class_type}
+use Rattle.je_fitting.specs.Classes.{IsInstanceMethod}
 use Rattle.je_fitting.specs.Expressions.{can_be_made, is_constructor, method_at}
 use Rattle.je_fitting.specs.Types.{agrees}
 use Rattle.je_java.specs.LibraryMembers.{has_own_makers, member_row}
@@ -19,7 +20,7 @@ use Rattle.je_sound.specs.Objects.{is_device_interface}
 use Rattle.plain_programs.specs.Plain.{IsPlain, joins_wild, names_wild}
 use Rattle.plain_programs.specs.Wild.{is_wild}
 use Rattle.eval_sound.specs.Premises.{AllAllowed, ComesTo, Dispatches, IsOfLibrary, LibraryIsSafe, MakerIsSafe, MemberIsSafe}
-use Rattle.eval_sound.specs.Safety.{Allowed, ProgramFits, Setting}
+use Rattle.eval_sound.specs.Safety.{Allowed, HasDevice, ProgramFits, Setting}
 
 -- the row of the table that is the member of a number of a class, which says that it is tame
 pub record IsTame (class : ClassId) (at : ℕ) : Type 0 where
@@ -41,31 +42,24 @@ MakersAreSafe = (setting : Setting) → ProgramFits setting.program → (class :
 
 -- ---- what a program comes to
 
--- a tame method, or a constructor that is handed its object
-pub record IsTameMember (program : CoreProgram) (class : ClassId) (at : ℕ) (member : CoreMethod) : Type 0 where
-  pub tame : IsTame class at
-  pub handed : (has_own_makers class && is_constructor program member) ≡ false
-
--- What a program's calls come to in the library is tame. Of a new instance and of a superclass that is called by no word that is so of
--- each library, since its constructors are tame.
+-- What a program's calls come to in the library is tame. Of new instances and of superclasses' constructors that is so in each
+-- program, since the library's constructors are tame.
 module _ (setting : Setting) where
   pub record ComesToTame : Type 0 where
     -- the method that an object's class has for one that is called
-    pub dispatched_to : (own class : ClassId) (at : ℕ) (o : CoreClass) (member : Member) (method : CoreMethod) →
-        ComesTo setting own class at → class_at setting.program own ≡ Some o →
-        can_be_made o ≡ true → dispatched setting.program own (member_at class at) ≡ Some member →
+    pub dispatched_to : (own class : ClassId) (at : ℕ) (named : CoreMethod) (o : CoreClass) (member : Member) (method : CoreMethod) →
+        ComesTo setting own class at → class_at setting.program own ≡ Some o → can_be_made o ≡ true →
+        IsInstanceMethod setting.program own class at named →
+        dispatched setting.program own (member_at class at) ≡ Some member →
         IsOfLibrary setting.program member.class member.at method →
-        IsTameMember setting.program member.class member.at method
+        IsTame member.class member.at
     -- the one that is named
     pub named : {receiver : MaybeCore} {class : ClassId} {at : ℕ} {args : Cores} {t : Ty} {span place : Span} (method : CoreMethod) →
         Allowed setting (node (core.CallExact receiver class at args) t span place) →
-        IsOfLibrary setting.program class at method → IsTameMember setting.program class at method
-    -- an instance is made by a constructor
-    pub made : {class : ClassId} {at : ℕ} {args : Cores} {captures : List CoreCapture} {word span place : Span} {t : Ty} (constructor : CoreMethod) →
-        Allowed setting (node (core.New class at args captures word) t span place) →
-        IsOfLibrary setting.program class at constructor → is_constructor setting.program constructor ≡ true
-    -- a device's interface has an object's method for each that is called
-    pub devices : (own class : ClassId) (at : ℕ) (named : CoreMethod) → ComesTo setting own class at →
+        IsOfLibrary setting.program class at method → is_constructor setting.program method ≡ false →
+        IsTame class at
+    -- where a device was there at first, its interface has a method for each that is called
+    pub devices : HasDevice setting.first → (own class : ClassId) (at : ℕ) (named : CoreMethod) → ComesTo setting own class at →
         is_device_interface own ≡ true → agrees setting.program (class_type own) (class_type class) ≡ true →
         method_at setting.program class at ≡ Some named → Dispatches setting own class at named
 
