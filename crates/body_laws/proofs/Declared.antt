@@ -16,10 +16,11 @@ use Rattle.je_ast.specs.Trees.{Expression, MaybeExpression, Variables}
 use Rattle.je_ast.specs.Trees as tree
 use Rattle.je_ast.specs.Types.{TypeName}
 use Rattle.je_classes.proofs.Lists.{bool_cases}
+use Rattle.je_classes.proofs.Sets.{in-left}
 use Rattle.je_fitting.specs.Expressions.{Body}
 use Rattle.je_fitting.specs.Expressions as fits
 use Rattle.je_fitting.specs.Statements.{Targets, is_loop_form}
-use Rattle.je_fitting.specs.Types.{of}
+use Rattle.je_fitting.specs.Types.{is_variable_type, of}
 use Rattle.je_scopes.specs.SourceTypes.{SourceType, SourceTypes, more_source_types, of_class, of_variable, plain, with_dims}
 use Rattle.name_types.specs.View.{all_in_limit, in_limit}
 use Rattle.source_types.specs.Erasure.{erased}
@@ -48,11 +49,12 @@ use Rattle.fitting_laws.specs.Sound.{AreSound, IsSound, more_arguments, no_argum
 use Rattle.fitting_laws.specs.Values.{IsValue}
 use Rattle.fitting_laws.proofs.Gives.{behind-check}
 use Rattle.fitting_laws.proofs.Gives as chain
-use Rattle.fitting_laws.proofs.Sound.{sound-dims, type-dims}
+use Rattle.fitting_laws.proofs.Sound.{sound-dims, sound-variable, type-dims}
 use Rattle.body_laws.specs.Bodies.{BodyStands, IsInBody}
 use Rattle.body_laws.specs.Fitting.{DoneFits, EachFits, none_fits, one_fits}
 use Rattle.body_laws.specs.Written.{IsWritten, IsWrittenIf, VariablesAreWritten}
-use Rattle.body_laws.proofs.Grows.{Grows, Knows, before, grows-met, grows-not, grows-number, met-there, number-there, on}
+use Rattle.body_laws.proofs.Grows.{Knows, met-there, number-there}
+use Rattle.body_laws.proofs.Typed.{Grown, before, grows-met, grows-not, grows-number, on, under-claim}
 use Rattle.body_laws.proofs.Scopes.{with-local}
 use Rattle.body_laws.proofs.Values.{Begins, Used, initial-fits, passes, performed-fits}
 
@@ -191,7 +193,8 @@ module _ (p : Program) (k : Known) (q : CoreProgram) (body : Body) (first : Scop
           → (IsValue q body p.heads from × (dims_of t ≤ 255) → PassesAs q body p.heads t n)
           → Knows body met (initialized s pr id t e from n).progress → Within s → IsSound q p.heads 255 t → DoneFits p k q body first j (initialized s pr id t e from n)
       initialized-fits value pass knows h sound =
-          let there : slice_get body.locals (next_number pr) ≡ Some (erased p.heads t) = number-there p.heads id.name t is_final id.span pr (before (grows-met (met_in_expression p (with_local is_final v s) e) numbered) knows) in
+          let earlier : Knows body met numbered = record { locals = knows.locals; met = λ m i. knows.met m (in-left (met_in_expression p (with_local is_final v s) e) i) } in
+          let there : slice_get body.locals (next_number pr) ≡ Some (erased p.heads t) = number-there p.heads id.name t is_final id.span pr earlier in
           let few = sound-dims q p.heads (omega arith) sound in
           let used = value (
             variable_constant is_final t from.node,
@@ -208,9 +211,16 @@ module _ (p : Program) (k : Known) (q : CoreProgram) (body : Body) (first : Scop
             scope = with-local p k q body first is_final v s h (record { type = sound; constant = λ c f. constant-of is_final t from.node c f }) there;
           }
 
+    -- what grows where a scope stands and a type is sound
+    abbrev Grew : Scope → SourceType → Progress → Progress → Type 0
+    Grew s t = Grown q body met (Within s × IsSound q p.heads 255 t)
+
+    variable : {s : Scope} {t : SourceType} → Within s × IsSound q p.heads 255 t → is_variable_type q (erased p.heads t) ≡ true
+    variable h = sound-variable q p.heads represents.heads (omega arith) h.1
+
     -- variables of a type are declared, and nothing loops
     abbrev pub Claim : Scope → Progress → SourceType → Done → Type 0
-    Claim s pr t d = Grows pr d.progress × (Knows body met d.progress → Within s → IsSound q p.heads 255 t → DoneFits p k q body first j d) × (loops d.code ≡ false)
+    Claim s pr t d = Grew s t pr d.progress × (Knows body met d.progress → Within s → IsSound q p.heads 255 t → DoneFits p k q body first j d) × (loops d.code ≡ false)
 
     with-initializer : (s : Scope) (pr : Progress) (id : Identifier) (dims : ℕ) (t : SourceType) (e : Expression) → IsWritten e → Gives (Claim s pr t) (declared.with_initializer p k is_final start written_type of s pr id dims t e)
     with-initializer s pr id dims t e lengths =
@@ -225,12 +235,12 @@ module _ (p : Program) (k : Known) (q : CoreProgram) (body : Body) (first : Scop
         blank-of s pr id t = local_of id.name t is_final (next_number pr) None
 
         grown : (s : Scope) (pr : Progress) (id : Identifier) (t : SourceType) (e : Expression) (from : TypedNode) →
-            Grows pr (behind p (with_local is_final (local_of id.name t is_final (next_number pr) (variable_constant is_final t from.node)) s) e (with_number p.heads id.name t is_final id.span pr))
-        grown s pr id t e from = on (grows-number p.heads id.name t is_final id.span pr) (grows-met _ (with_number p.heads id.name t is_final id.span pr))
+            Grew s t pr (behind p (with_local is_final (local_of id.name t is_final (next_number pr) (variable_constant is_final t from.node)) s) e (with_number p.heads id.name t is_final id.span pr))
+        grown s pr id t e from = on (grows-number p.heads id.name t is_final id.span pr variable) (grows-met _ (with_number p.heads id.name t is_final id.span pr))
 
     without-initializer : (s : Scope) (pr : Progress) (id : Identifier) (dims : ℕ) (t : SourceType) → Gives (Claim s pr t) (declared.without_initializer p k is_final start written_type of s pr id dims t)
     without-initializer s pr id dims t = behind-check (Claim s pr t) LocalTwice id.span _ _ (λ _. behind-check (Claim s pr t) BadArray id.span _ _ (λ _. (
-      grows-number p.heads id.name t is_final id.span pr,
+      grows-number p.heads id.name t is_final id.span pr variable,
       λ knows h sound. let there = number-there p.heads id.name t is_final id.span pr knows in record {
         code = none_fits;
         numbers = one-number (next_number pr) (erased p.heads t) there;
@@ -249,7 +259,8 @@ module _ (p : Program) (k : Known) (q : CoreProgram) (body : Body) (first : Scop
         chain.behind (Claim s pr (declared.variable_type p k is_final start written_type of dims)) (Claim s pr of) (declared.variable p k is_final start written_type of s pr id dims e) _ (one-variable s pr id dims e lengths.0)
         (λ d first-done. chain.behind (Claim d.scope d.progress of) (Claim s pr of) (declared.variables p k is_final start written_type of d.scope d.progress vs) _ (variables-fit d.scope d.progress vs lengths.1)
         (λ rest further. (
-          on first-done.0 further.0,
+          on (under-claim (λ knows h. (h.0, variable-sound q p dims h.1)) first-done.0)
+              (under-claim (λ knows h. ((first-done.1 (before further.0 knows) h.0 (variable-sound q p dims h.1)).scope, h.1)) further.0),
           λ knows h sound.
               let one = first-done.1 (before further.0 knows) h (variable-sound q p dims sound) in
               let more = further.1 knows one.scope sound in

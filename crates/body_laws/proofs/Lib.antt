@@ -1,4 +1,5 @@
 pub mod Grows
+pub mod Typed
 pub mod Mentions
 pub mod Scopes
 pub mod Values

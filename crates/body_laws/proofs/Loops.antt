@@ -1,6 +1,6 @@
 -- `for`, over an array and else, fits where its parts do (JLS 14.14).
 use Rattle.std.proofs.Common.{◌≡◌, ℕ, ◌+◌, ◌≤◌, List, [], ◌∷◌, ◌++◌, Option, Some, None, refl, sym, ap, ◌∙◌, subst, arith}
-use Rattle.std.specs.Prelude.{Bool, true, false, length, ◌<◌, slice_get}
+use Rattle.std.specs.Prelude.{Bool, true, false, length, ◌<◌, is_some, slice_get}
 use Rattle.std.specs.List.{All}
 use Rattle.std.proofs.lemmas.List.Elements.{All-cons, All-nil}
 use Rattle.std.proofs.lemmas.Option.{none-some, slice_get_within}
@@ -16,7 +16,7 @@ use Rattle.je_fitting.specs.Expressions.{Body, Fits}
 use Rattle.je_fitting.specs.Expressions as fits
 use Rattle.je_fitting.specs.Statements as block
 use Rattle.je_fitting.specs.Statements.{Targets, in_loop, is_loop_form}
-use Rattle.je_fitting.specs.Types.{agrees, int}
+use Rattle.je_fitting.specs.Types.{agrees, int, is_variable_type}
 use Rattle.je_fitting.proofs.Booleans.{two}
 use Rattle.je_scopes.specs.SourceTypes.{SourceType}
 use Rattle.plain_programs.specs.Nodes.{every, every_expression}
@@ -44,11 +44,17 @@ use Rattle.fitting_laws.specs.Sound.{IsType, a_type, of_null, of_void}
 use Rattle.fitting_laws.specs.Values.{IsValue}
 use Rattle.fitting_laws.proofs.ArraysMade.{element-sound}
 use Rattle.fitting_laws.proofs.Gives.{behind, behind-check, behind-need}
-use Rattle.fitting_laws.proofs.Sound.{sound-dims, type-dims}
+use Rattle.fitting_laws.proofs.Sound.{sound-dims, sound-variable, type-dims}
 use Rattle.body_laws.specs.Fitting.{EachFits, StatementFitsAs, none_fits, one_fits}
 use Rattle.body_laws.proofs.Declared.{all-fit}
 use Rattle.body_laws.proofs.Steps.{Single, labelled-fits}
 use Rattle.body_laws.proofs.Switches.{parts-fit}
+
+-- what has elements has the type of a variable
+pub array-variable : (q : CoreProgram) (heads : List ClassHead) → HasHeads q heads → (t : SourceType) → IsType q heads t → is_some (element_type t) ≡ true → is_variable_type q (erased heads t) ≡ true
+array-variable q heads known t (a_type sound) h = sound-variable q heads known (omega arith) sound
+array-variable q heads known _ of_null h = absurd cc
+array-variable q heads known _ of_void h = absurd cc
 
 -- ---- a loop behind its label
 
@@ -136,7 +142,8 @@ module _ (q : CoreProgram) (body : Body) (heads : List ClassHead) (known : HasHe
 
 module _ (p : Program) (k : Known) (returning : Returning) (q : CoreProgram) (body : Body) (known : HasHeads q p.heads) where
   abbrev pub EachAssigned : (j : Targets) (label : Option Identifier) (array : TypedNode) (n : ℕ) (t : SourceType) (inner code : CoreStmt) → Type 0
-  EachAssigned j label array n t inner code = EachStands q body p.heads known array n t → StatementFitsAs q body (in_loop (loop-targets label j)) inner → Single q body j code
+  EachAssigned j label array n t inner code = (is_some (element_type array.type) ≡ true)
+      × (EachStands q body p.heads known array n t → StatementFitsAs q body (in_loop (loop-targets label j)) inner → Single q body j code)
 
   pub for-each-fits : (j : Targets) (s : Scope) (label : Option Identifier) (word : Span) (e : Expression) (array : TypedNode) (n : ℕ) (t : SourceType) (id : Identifier) (inner : CoreStmt)
       → Gives (EachAssigned j label array n t inner) (for_each_judged p k returning s label word e array n t id inner)
@@ -145,4 +152,4 @@ module _ (p : Program) (k : Known) (returning : Returning) (q : CoreProgram) (bo
       (Rattle.body_laws.proofs.Values.under (EachStands q body p.heads known array n t) (PassesAs q body p.heads t) (assigned p.heads t (written.span_of e) (each.element p.heads (written.span_of e) array n element))
       (λ stands. assigned_values_pass q body p.heads t (written.span_of e) (each.element p.heads (written.span_of e) array n element) known (element-few q body p.heads known (written.span_of e) array n t element stands is) stands.few
       (element-fits q body p.heads known (written.span_of e) array n t element stands is)))
-      (λ from pass stands f. (each-fits q body p.heads known (written.span_of e) array n t element stands is id.span word from inner (pass stands) j label f, refl))))
+      (λ from pass. (ap is_some is, λ stands f. (each-fits q body p.heads known (written.span_of e) array n t element stands is id.span word from inner (pass stands) j label f, refl)))))

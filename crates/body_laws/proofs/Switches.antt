@@ -47,7 +47,8 @@ use Rattle.fitting_laws.proofs.Instances.{class-itself, erased-class-type, field
 use Rattle.body_laws.specs.Bodies.{BodyStands, IsInBody, KeepsPlace}
 use Rattle.body_laws.specs.Fitting.{EachFits, none_fits, one_fits}
 use Rattle.body_laws.specs.Written.{IsWritten, LabelsAreWritten}
-use Rattle.body_laws.proofs.Grows.{Grows, Knows, before, grows-met, grows-not, on}
+use Rattle.body_laws.proofs.Grows.{Knows}
+use Rattle.body_laws.proofs.Typed.{Grown, before, grows-met, grows-not, on}
 use Rattle.body_laws.proofs.Steps.{Single}
 use Rattle.body_laws.proofs.Values.{Used, valued-fits}
 
@@ -161,20 +162,20 @@ module _ (p : Program) (k : Known) (q : CoreProgram) (body : Body) (first : Scop
   -- ---- the labels that are written
 
   abbrev pub LabelsClaim : Scope → Progress → LabelsMet → Type 0
-  LabelsClaim s pr l = Grows pr l.progress × (Knows body met l.progress → IsInBody p k q body first s → LabelsStand q body p.heads l.labels)
+  LabelsClaim s pr l = Grown q body met (IsInBody p k q body first s) pr l.progress × (Knows body met l.progress → IsInBody p k q body first s → LabelsStand q body p.heads l.labels)
 
   place-uses : (span : Span) (o : Option ℕ) → are_there q (uses_of (place_node span o).node)
   place-uses span None = All-nil _
   place-uses span (Some n) = All-nil _
 
-  label-uses : (o : Option ℕ) (s : Scope) (e : Expression) (pr : Progress) → IsWritten e → Gives (λ t. Grows pr (behind_label p k o s o e pr) × (Knows body met (behind_label p k o s o e pr) → IsInBody p k q body first s → are_there q (uses_of t.node))) (label_value p k o s o e)
+  label-uses : (o : Option ℕ) (s : Scope) (e : Expression) (pr : Progress) → IsWritten e → Gives (λ t. Grown q body met (IsInBody p k q body first s) pr (behind_label p k o s o e pr) × (Knows body met (behind_label p k o s o e pr) → IsInBody p k q body first s → are_there q (uses_of t.node))) (label_value p k o s o e)
   label-uses None s e pr lengths = Rattle.fitting_laws.proofs.Gives.weaker (λ t. Knows body met (walk.behind p s e pr) × IsInBody p k q body first s → Used p k q body first met represents has known t) _ (value (expression p k s read e)) (valued-fits p k q body first met represents has known s e pr lengths)
       (λ t f. (grows-met _ pr, λ knows h. (f (knows, h)).0.fits.uses))
   label-uses (Some c) s e pr lengths = (grows-not pr, λ knows h. place-uses (written.span_of e) (constant_place (constants_of p c) e))
 
   pub labels-fit : (o : Option ℕ) (s : Scope) (pr : Progress) (ls : Labels) → LabelsAreWritten ls → Gives (LabelsClaim s pr) (labels p k o s pr ls)
   labels-fit o s pr tree.no_labels lengths = (grows-not pr, λ knows h. no_label)
-  labels-fit o s pr (tree.case_label e ls) lengths = behind (λ t. Grows pr (behind_label p k o s o e pr) × (Knows body met (behind_label p k o s o e pr) → IsInBody p k q body first s → are_there q (uses_of t.node))) (LabelsClaim s pr) (label_value p k o s o e) _ (label-uses o s e pr lengths.0)
+  labels-fit o s pr (tree.case_label e ls) lengths = behind (λ t. Grown q body met (IsInBody p k q body first s) pr (behind_label p k o s o e pr) × (Knows body met (behind_label p k o s o e pr) → IsInBody p k q body first s → are_there q (uses_of t.node))) (LabelsClaim s pr) (label_value p k o s o e) _ (label-uses o s e pr lengths.0)
       (λ t one. behind (LabelsClaim s (behind_label p k o s o e pr)) (LabelsClaim s pr) (labels p k o s (behind_label p k o s o e pr) ls) _ (labels-fit o s (behind_label p k o s o e pr) ls lengths.1)
       (λ rest more. (on one.0 more.0, λ knows h. one_label (one.1 (before more.0 knows) h) (more.1 knows h))))
   labels-fit o s pr (tree.default_label word ls) lengths = behind (LabelsClaim s pr) (LabelsClaim s pr) (labels p k o s pr ls) _ (labels-fit o s pr ls lengths) (λ rest more. (more.0, λ knows h. one_label tt (more.1 knows h)))

@@ -1,6 +1,6 @@
 -- The walk over a body gives what fits.
 use Rattle.std.proofs.Common.{◌≡◌, ℕ, ◌+◌, List, [], ◌∷◌, Option, Some, None, refl, sym, ap, ◌∙◌, subst, arith}
-use Rattle.std.specs.Prelude.{Bool, true, false, ◌&&◌, not, length, ◌<◌, slice_get, if◌then◌else◌}
+use Rattle.std.specs.Prelude.{Bool, true, false, ◌&&◌, not, length, ◌<◌, is_some, slice_get, if◌then◌else◌}
 use Rattle.std.specs.List.{All}
 use Rattle.std.proofs.lemmas.List.{length-append}
 use Rattle.std.proofs.lemmas.List.Elements.{All-append, All-nil}
@@ -20,7 +20,7 @@ use Rattle.je_fitting.specs.Expressions.{Body}
 use Rattle.je_fitting.specs.Expressions as nodes
 use Rattle.je_fitting.specs.Statements as fits
 use Rattle.je_fitting.specs.Statements.{Targets, in_loop, in_switch, is_loop_form}
-use Rattle.je_fitting.specs.Types.{of}
+use Rattle.je_fitting.specs.Types.{is_variable_type, of}
 use Rattle.je_fitting.proofs.Booleans.{three}
 use Rattle.je_scopes.specs.Headers.{declared_name}
 use Rattle.je_scopes.specs.SourceTypes.{SourceType}
@@ -29,7 +29,7 @@ use Rattle.source_types.specs.Erasure.{erased}
 use Rattle.header_typing.specs.WrittenTypes.{span_of}
 use Rattle.je_typing.specs.declared.fault.TypeRule.TheVariants.{LocalTwice}
 use Rattle.je_typing.specs.Judged.{Judged, bind, faulty, gives}
-use Rattle.je_typing.specs.Typed.{TypedNode, primitive_type}
+use Rattle.je_typing.specs.Typed.{TypedNode, element_type, primitive_type}
 use Rattle.name_typing.specs.Program.{Program}
 use Rattle.body_types.specs.BodyTypes.{bare_type, body_type}
 use Rattle.statement_steps.specs.Conditions.{do_loop, if_statement, loop_statement}
@@ -52,15 +52,16 @@ use Rattle.fitting_laws.specs.Represented.{Represents}
 use Rattle.fitting_laws.specs.Sound.{IsSound}
 use Rattle.fitting_laws.specs.Values.{IsValue}
 use Rattle.fitting_laws.proofs.Gives.{behind, behind-check, behind-given, weaker}
-use Rattle.fitting_laws.proofs.Sound.{sound-dims}
+use Rattle.fitting_laws.proofs.Sound.{sound-dims, sound-variable}
 use Rattle.fitting_laws.proofs.Walk.{bare-sound}
 use Rattle.body_laws.specs.Bodies.{BodyStands, IsInBody, Returns}
 use Rattle.body_laws.specs.Fitting.{DoneFits, EachFits, StatementFitsAs, none_fits, one_fits}
-use Rattle.body_laws.specs.Laws.{BodiesFit}
+use Rattle.body_laws.specs.Laws.{BodiesFit, LocalsAreTyped}
 use Rattle.body_laws.specs.Written.{LabelsAreWritten, AllAreWritten, BodyIsWritten, CatchesAreWritten, GroupsAreWritten, IsWritten, IsWrittenIf, StartIsWritten, StatementIsWritten, VariablesAreWritten}
 use Rattle.body_laws.proofs.Declared.{Claim, all-fit, loops, sound-value, variables-fit}
-use Rattle.body_laws.proofs.Grows.{Grows, Knows, before, grows-met, grows-not, grows-number, met-there, number-there, on}
-use Rattle.body_laws.proofs.Loops.{EachAssigned, EachStands, for-each-fits, for-fits, loop-targets}
+use Rattle.body_laws.proofs.Grows.{Knows, met-there, number-there}
+use Rattle.body_laws.proofs.Typed.{Grown, before, grows-met, grows-not, grows-number, on, under-claim}
+use Rattle.body_laws.proofs.Loops.{EachAssigned, array-variable, EachStands, for-each-fits, for-fits, loop-targets}
 use Rattle.body_laws.proofs.Scopes.{with-class, with-classes-of, with-local}
 use Rattle.body_laws.proofs.Steps.{CatchesFitAs, ClausesFit, MaybeFitsAs, Single, StepsFit, WithTest, a-statement, clauses-fit, do-fits, do-judged, if-fits, if-judged, jumps-fit, labelled-fits, labelled-judged, loop-fits, loop-judged, more_clauses, no-statement, no-steps, no_clauses, one-step, returned-fits, thrown-fits, value-returned}
 use Rattle.body_laws.proofs.Switches.{EachGroup, LabelsClaim, labels-fit, no_group, one_group, parts-fit, selected, switch-fits}
@@ -102,6 +103,10 @@ module _ (p : Program) (k : Known) (q : CoreProgram) (body : Body) (first : Scop
   abbrev Knowing : Progress → Type 0
   Knowing pr = Knows body met pr
 
+  -- what grows where a scope stands
+  abbrev Grew : Scope → Progress → Progress → Type 0
+  Grew s = Grown q body met (InBody s)
+
   abbrev Fit : Targets → CoreStmt → Type 0
   Fit j c = StatementFitsAs q body j c
 
@@ -110,11 +115,11 @@ module _ (p : Program) (k : Known) (q : CoreProgram) (body : Body) (first : Scop
 
   -- what statements come to, from a scope on
   abbrev pub Block : Targets → Scope → Progress → Done → Type 0
-  Block j s pr d = Grows pr d.progress × (Knowing d.progress → InBody s → Finished j d)
+  Block j s pr d = Grew s pr d.progress × (Knowing d.progress → InBody s → Finished j d)
 
   -- what one comes to, which is a loop or not
   abbrev Single-done : Targets → Scope → Progress → Bool → Done → Type 0
-  Single-done j s pr l d = Grows pr d.progress × (Knowing d.progress → InBody s → Finished j d × (loops d.code ≡ l))
+  Single-done j s pr l d = Grew s pr d.progress × (Knowing d.progress → InBody s → Finished j d × (loops d.code ≡ l))
 
   abbrev Valued : Scope → Expression → Progress → TypedNode → Type 0
   Valued s e pr t = Knowing (bodies.behind p s e pr) × InBody s → Used p k q body first met represents has known t
@@ -122,7 +127,7 @@ module _ (p : Program) (k : Known) (q : CoreProgram) (body : Body) (first : Scop
   value-of : (s : Scope) (e : Expression) (pr : Progress) → IsWritten e → Gives (Valued s e pr) (valued p k returning s e)
   value-of s e pr lengths = valued-fits p k q body first met represents has known s e pr lengths
 
-  after : (s : Scope) (e : Expression) (pr : Progress) → Grows pr (bodies.behind p s e pr)
+  after : (s : Scope) (e : Expression) (pr : Progress) → Grew s pr (bodies.behind p s e pr)
   after s e pr = grows-met (bodies.met_in_expression p s e) pr
 
   -- ---- one statement
@@ -153,7 +158,7 @@ module _ (p : Program) (k : Known) (q : CoreProgram) (body : Body) (first : Scop
   declares j s pr is_final start t vs lengths = behind-given (λ u. Unit {0}) (Single-done j s pr false) (body_type p s.place.here t) (λ of. variables p k is_final start t of s pr vs) (any (body_type p s.place.here t))
       (λ of e _. weaker (Claim p k q body first met represents has known is_final start t of j s pr of) (Single-done j s pr false) (variables p k is_final start t of s pr vs)
       (variables-fit p k q body first met represents has known is_final start t of j s pr vs lengths)
-      (λ d y. (y.0, λ knows h. (y.1 knows h (known.types s t of h e), y.2))))
+      (λ d y. (under-claim (λ knows h. (h, known.types s t of h e)) y.0, λ knows h. (y.1 knows h (known.types s t of h e), y.2))))
 
   classed : (j : Targets) (s : Scope) (pr : Progress) (id : Identifier) → Gives (Single-done j s pr false) (local_class p s pr id)
   unfolding local_class
@@ -279,7 +284,7 @@ module _ (p : Program) (k : Known) (q : CoreProgram) (body : Body) (first : Scop
       (λ d y. (y.0, λ knows h. (y.1 knows h).0))
   begins j s pr (tree.steps es) lengths = performs j s pr es lengths
 
-  after-if : (s : Scope) (c : MaybeExpression) (pr : Progress) → Grows pr (behind_if p k returning s c pr)
+  after-if : (s : Scope) (c : MaybeExpression) (pr : Progress) → Grew s pr (behind_if p k returning s c pr)
   after-if s tree.no_expression pr = grows-not pr
   after-if s (tree.an_expression c) pr = after s c pr
 
@@ -291,13 +296,16 @@ module _ (p : Program) (k : Known) (q : CoreProgram) (body : Body) (first : Scop
   conditions s word (tree.an_expression c) pr lengths = weaker (Valued s c pr) (Conditional s (tree.an_expression c) pr) (valued p k returning s c) (value-of s c pr lengths) (λ t v h. (v h).0.fits)
 
   abbrev Stepped : Scope → Progress → ListDone Core → Type 0
-  Stepped s pr l = Grows pr l.progress × (Knowing l.progress → InBody s → StepsFit q body p.heads represents.heads l.items)
+  Stepped s pr l = Grew s pr l.progress × (Knowing l.progress → InBody s → StepsFit q body p.heads represents.heads l.items)
 
   steps-there : (s : Scope) (pr : Progress) (es : Expressions) → AllAreWritten es → Gives (Stepped s pr) (steps p k returning s pr es)
   steps-there s pr tree.no_expressions lengths = (grows-not pr, λ knows h. no-steps q body p.heads represents.heads)
   steps-there s pr (tree.more_expressions e es) lengths = behind (λ t. Knowing (bodies.behind p s e pr) × InBody s → IsValue q body p.heads t) (Stepped s pr) (expression p k s read e) _ (read-fits p k q body first met represents has known s e pr lengths.0)
       (λ t v. behind (Stepped s (bodies.behind p s e pr)) (Stepped s pr) (steps p k returning s (bodies.behind p s e pr) es) _ (steps-there s (bodies.behind p s e pr) es lengths.1)
       (λ rest y. (on (after s e pr) y.0, λ knows h. one-step q body p.heads represents.heads t rest.items (v (before y.0 knows, h)).fits (y.1 knows h))))
+
+  grown-on : (s : Scope) (c : MaybeExpression) (pr : Progress) {a b : Progress} → Grew s (behind_if p k returning s c pr) a → Grew s a b → Grew s pr b
+  grown-on s c pr g h = on (after-if s c pr) (on g h)
 
   for-loop : (j : Targets) (label : Option Identifier) (s : Scope) (pr : Progress) (word : Span) (start : ForInitializer) (c : MaybeExpression) (es : Expressions) (l : Bool) (sub : Scope → Progress → Judged Done)
       → StartIsWritten start → IsWrittenIf c → AllAreWritten es → ((at : Scope) (from : Progress) → Gives (Single-done (in_loop (loop-targets label j)) at from l) (sub at from))
@@ -310,7 +318,8 @@ module _ (p : Program) (k : Known) (q : CoreProgram) (body : Body) (first : Scop
       behind (WithTest t (λ n. stmt (core.Loop n further.items (alone d)) word word)) (Single-done j s pr false) (loop_statement word (condition_span p k returning word c) t further.items (alone d)) (λ loop. gives (one (for_code p k returning label word begun loop) s d.progress))
       (loop-judged word (condition_span p k returning word c) t further.items (alone d))
       (λ loop z. (
-        on b.0 (on (after-if begun.scope c begun.progress) (on u.0 y.0)),
+        on b.0 (under-claim (λ knows h. (b.1 (before (grown-on begun.scope c begun.progress u.0 y.0) knows) h).scope)
+            (grown-on begun.scope c begun.progress u.0 y.0)),
         λ knows h.
             let behind-steps = before y.0 knows in
             let behind-test = before u.0 behind-steps in
@@ -325,7 +334,7 @@ module _ (p : Program) (k : Known) (q : CoreProgram) (body : Body) (first : Scop
   -- ---- JLS 14.11
 
   abbrev Grouped : Targets → Scope → Progress → GroupsDone → Type 0
-  Grouped j s pr gs = Grows pr gs.progress × (Knowing gs.progress → InBody s → EachGroup q body p.heads j gs.groups × All (λ n. n < length body.locals) gs.numbers)
+  Grouped j s pr gs = Grew s pr gs.progress × (Knowing gs.progress → InBody s → EachGroup q body p.heads j gs.groups × All (λ n. n < length body.locals) gs.numbers)
 
   switches : (j : Targets) (s : Scope) (pr : Progress) (word span : Span) (e : Expression) (sub : Option ℕ → Judged GroupsDone) → IsWritten e → ((o : Option ℕ) → Gives (Grouped (in_switch j) s (bodies.behind p s e pr)) (sub o))
       → Gives (Single-done j s pr false) (bind (valued p k returning s e) (λ t. bind (sub (enum_of p.heads t.type)) (λ ds. bind (switch_judged p k returning word span e (selected_by (enum_of p.heads t.type) t) ds) (λ code. gives (one code s ds.progress)))))
@@ -370,7 +379,7 @@ module _ (p : Program) (k : Known) (q : CoreProgram) (body : Body) (first : Scop
   -- ---- JLS 14.20
 
   abbrev Caught : Targets → Scope → Progress → ListDone Clause → Type 0
-  Caught j s pr l = Grows pr l.progress × (Knowing l.progress → InBody s → ClausesFit q body p.heads represents.heads j l.items)
+  Caught j s pr l = Grew s pr l.progress × (Knowing l.progress → InBody s → ClausesFit q body p.heads represents.heads j l.items)
 
   try-fits : (j : Targets) (word at : Span) (inner : CoreStmt) (cs : CoreCatches) (last : MaybeStmt) → Fit j inner → CatchesFitAs q body p.heads represents.heads j cs → MaybeFitsAs q body p.heads represents.heads j last
       → Single q body j (try_code p k returning word at inner cs last)
@@ -421,24 +430,40 @@ module _ (p : Program) (k : Known) (q : CoreProgram) (body : Body) (first : Scop
     variable-number : next_number at-index ≡ next_number pr + 2
     variable-number = let more = one-more at-array (no_name p) (primitive_type base.Int) false (written.span_of e) in let index = index-number in omega (arith, more, index)
 
-    grown : Grows pr at-variable
-    grown = on (after s e pr) (on (grows-number p.heads (no_name p) array.type false (written.span_of e) (bodies.behind p s e pr))
-        (on (grows-number p.heads (no_name p) (primitive_type base.Int) false (written.span_of e) at-array) (grows-number p.heads id.name t is_final id.span at-index)))
+    -- the locals of the array, the index and the variable have types of variables
+    record AreVariables : Type 0 where
+      of_array : is_variable_type q (erased p.heads array.type) ≡ true
+      of_variable : is_variable_type q (erased p.heads t) ≡ true
+
+    abbrev GrewEach : Progress → Progress → Type 0
+    GrewEach = Grown q body met AreVariables
+
+    with-variable : GrewEach at-index at-variable
+    with-variable = grows-number p.heads id.name t is_final id.span at-index (λ v. v.of_variable)
+
+    with-index : GrewEach at-array at-variable
+    with-index = on (grows-number p.heads (no_name p) (primitive_type base.Int) false (written.span_of e) at-array
+        (λ v. ap (is_variable_type q) (erased-plain p.heads base.Int))) with-variable
+
+    with-array : GrewEach (bodies.behind p s e pr) at-variable
+    with-array = on (grows-number p.heads (no_name p) array.type false (written.span_of e) (bodies.behind p s e pr) (λ v. v.of_array)) with-index
+
+    grown : (Knowing at-variable → InBody s → AreVariables) → Grew s pr at-variable
+    grown are = on (after s e pr) (under-claim are with-array)
 
     behind-array : Knowing at-variable → Knowing (bodies.behind p s e pr)
-    behind-array knows = before (on (grows-number p.heads (no_name p) array.type false (written.span_of e) (bodies.behind p s e pr))
-        (on (grows-number p.heads (no_name p) (primitive_type base.Int) false (written.span_of e) at-array) (grows-number p.heads id.name t is_final id.span at-index))) knows
+    behind-array knows = before with-array knows
 
     variable-there : Knowing at-variable → slice_get body.locals (next_number pr + 2) ≡ Some (erased p.heads t)
     variable-there knows = subst (λ (n : ℕ). slice_get body.locals n ≡ Some (erased p.heads t)) variable-number (number-there p.heads id.name t is_final id.span at-index knows)
 
     index-there : Knowing at-variable → slice_get body.locals (next_number pr + 1) ≡ Some (of base.Int)
     index-there knows = subst (λ (n : ℕ). slice_get body.locals n ≡ Some (of base.Int)) index-number
-        (number-there p.heads (no_name p) (primitive_type base.Int) false (written.span_of e) at-array (before (grows-number p.heads id.name t is_final id.span at-index) knows) ∙ ap Some (erased-plain p.heads base.Int))
+        (number-there p.heads (no_name p) (primitive_type base.Int) false (written.span_of e) at-array (before with-variable knows) ∙ ap Some (erased-plain p.heads base.Int))
 
     array-there : Knowing at-variable → slice_get body.locals (next_number pr) ≡ Some (erased p.heads array.type)
     array-there knows = number-there p.heads (no_name p) array.type false (written.span_of e) (bodies.behind p s e pr)
-        (before (on (grows-number p.heads (no_name p) (primitive_type base.Int) false (written.span_of e) at-array) (grows-number p.heads id.name t is_final id.span at-index)) knows)
+        (before with-index knows)
 
     each-stands : Knowing at-variable → InBody s → IsSound q p.heads 255 t → Used p k q body first met represents has known array → EachStands q body p.heads represents.heads array (next_number pr) t
     each-stands knows h sound u = record {
@@ -454,6 +479,13 @@ module _ (p : Program) (k : Known) (q : CoreProgram) (body : Body) (first : Scop
     element-scope : Knowing at-variable → InBody s → IsSound q p.heads 255 t → InBody (with_element p k returning s pr is_final t id)
     element-scope knows h sound = with-local p k q body first is_final (local_of id.name t is_final (next_number pr + 2) None) s h (record { type = sound; constant = λ c f. absurd (none-some c f) }) (variable-there knows)
 
+  each-variables : {s : Scope} {pr : Progress} {is_final : Bool} (t : SourceType) (w : TypeName) {id : Identifier} {e : Expression} → body_type p s.place.here w ≡ gives t → (array : TypedNode) → is_some (element_type array.type) ≡ true
+      → Knowing (at-variable s pr is_final t id e array) → InBody s → Valued s e pr array → AreVariables s pr is_final t id e array
+  each-variables {s = s} {pr = pr} {is_final = is_final} t w {id = id} {e = e} i array elements knows h v = record {
+    of_array = array-variable q p.heads represents.heads array.type (v (behind-array s pr is_final t id e array knows, h)).0.type elements;
+    of_variable = sound-variable q p.heads represents.heads (omega arith) (known.types s w t h i);
+  }
+
   for-each-loop : (j : Targets) (label : Option Identifier) (s : Scope) (pr : Progress) (word : Span) (is_final : Bool) (t : TypeName) (id : Identifier) (e : Expression) (l : Bool) (sub : Scope → Progress → Judged Done)
       → IsWritten e → ((at : Scope) (from : Progress) → Gives (Single-done (in_loop (loop-targets label j)) at from l) (sub at from))
       → Gives (Single-done j s pr false) (bind (body_type p s.place.here t) (λ of. bind (valued p k returning s e) (λ array. bind (sub (with_element p k returning s pr is_final of id) (with_number p.heads id.name of is_final id.span (with_hidden p k returning (written.span_of e) array (bodies.behind p s e pr)))) (λ d.
@@ -465,11 +497,12 @@ module _ (p : Program) (k : Known) (q : CoreProgram) (body : Body) (first : Scop
       behind (EachAssigned p k returning q body represents.heads j label array (next_number pr) of (alone d)) (Single-done j s pr false) (for_each_judged p k returning s label word e array (next_number pr) of id (alone d)) (λ code. gives (one code s d.progress))
       (for-each-fits p k returning q body represents.heads j s label word e array (next_number pr) of id (alone d))
       (λ code z. (
-        on (grown s pr is_final of id e array) y.0,
+        on (grown s pr is_final of id e array (λ knows h. each-variables of t i array z.0 knows h v))
+            (under-claim (λ knows h. element-scope s pr is_final of id e array (before y.0 knows) h (known.types s t of h i)) y.0),
         λ knows h.
             let early = before y.0 knows in
             let sound = known.types s t of h i in
-            single j code s d.progress (z (each-stands s pr is_final of id e array early h sound (v (behind-array s pr is_final of id e array early, h)))
+            single j code s d.progress (z.1 (each-stands s pr is_final of id e array early h sound (v (behind-array s pr is_final of id e array early, h)))
             (alone-fits (in_loop (loop-targets label j)) d.code (y.1 knows (element-scope s pr is_final of id e array early h sound)).0.code)) h,
       )))))
 
@@ -482,13 +515,19 @@ module _ (p : Program) (k : Known) (q : CoreProgram) (body : Body) (first : Scop
       behind (Block j s l.progress) (Grouped j s pr) (sub l.progress) _ (x l.progress) (λ d y.
       behind (Grouped j (with_classes_of s d.scope) d.progress) (Grouped j s pr) (further (with_classes_of s d.scope) d.progress) _ (u (with_classes_of s d.scope) d.progress)
       (λ rest w. (
-        on a.0 (on y.0 w.0),
+        on a.0 (on y.0 (under-claim (λ knows h. with-classes-of p k q body first s d.scope h (y.1 (before w.0 knows) h).scope) w.0)),
         λ knows h.
             let early = before w.0 knows in
             let one-done = y.1 early h in
             let more = w.1 knows (with-classes-of p k q body first s d.scope h one-done.scope) in
             (one_group (record { labels = a.1 (before y.0 early) h; parts = one-done.code }) more.0, All-append (λ n. n < length body.locals) d.numbers rest.numbers one-done.numbers more.1),
       ))))
+
+  -- the scope of a clause, with its local
+  caught-scope : (s : Scope) (pr : Progress) (is_final : Bool) (id : Identifier) (t : SourceType) {at : Progress} {C : Type 0} → Knowing at → InBody s → IsSound q p.heads 255 t
+      → Grown q body met C (with_number p.heads id.name t is_final id.span pr) at → InBody (with_local is_final (local_of id.name t is_final (next_number pr) None) s)
+  caught-scope s pr is_final id t knows h sound g = with-local p k q body first is_final (local_of id.name t is_final (next_number pr) None) s h (record { type = sound; constant = λ c f. absurd (none-some c f) })
+      (number-there p.heads id.name t is_final id.span pr (before g knows))
 
   catched : (j : Targets) (s : Scope) (pr : Progress) (is_final : Bool) (n : QualifiedName) (id : Identifier) (opening closing : Span) (sub : Scope → Progress → Judged Done) (further : Progress → Judged (ListDone Clause))
       → ((at : Scope) (from : Progress) → Gives (Block j at from) (sub at from)) → ((at : Progress) → Gives (Caught j s at) (further at))
@@ -501,11 +540,12 @@ module _ (p : Program) (k : Known) (q : CoreProgram) (body : Body) (first : Scop
       (x (with_local is_final (local_of id.name t is_final (next_number pr) None) s) (with_number p.heads id.name t is_final id.span pr)) (λ d y.
       behind (Caught j s d.progress) (Caught j s pr) (further d.progress) _ (u d.progress)
       (λ rest w. (
-        on (grows-number p.heads id.name t is_final id.span pr) (on y.0 w.0),
+        on (grows-number p.heads id.name t is_final id.span pr (λ h. sound-variable q p.heads represents.heads (omega arith) (sound h)))
+            (on (under-claim (λ knows h. caught-scope s pr is_final id t knows h (sound h) y.0) y.0) w.0),
         λ knows h.
             let early = before w.0 knows in
             let there = number-there p.heads id.name t is_final id.span pr (before y.0 early) in
-            let scope = with-local p k q body first is_final (local_of id.name t is_final (next_number pr) None) s h (record { type = sound h; constant = λ c f. absurd (none-some c f) }) there in
+            let scope = caught-scope s pr is_final id t early h (sound h) y.0 in
             more_clauses (record { there = there; block = block-fits j opening closing d (y.1 early scope) }) (w.1 knows h),
       ))))
 
@@ -568,7 +608,7 @@ module _ (p : Program) (k : Known) (q : CoreProgram) (body : Body) (first : Scop
     walk-block j s pr (tree.more_statements b bs) h = behind (Single-done j s pr (is_direct b)) (Block j s pr) (statement p k returning j None s pr b) (λ d. bind (statements p k returning j d.scope d.progress bs) (λ rest. gives (followed d rest))) (walk j None s pr b h.0)
         (λ d y. behind (Block j d.scope d.progress) (Block j s pr) (statements p k returning j d.scope d.progress bs) (λ rest. gives (followed d rest)) (walk-block j d.scope d.progress bs h.1)
         (λ rest w. (
-          on y.0 w.0,
+          on y.0 (under-claim (λ knows i. (y.1 (before w.0 knows) i).0.scope) w.0),
           λ knows i. let one-done = (y.1 (before w.0 knows) i).0 in let more = w.1 knows one-done.scope in record {
             code = all-fit one-done.code more.code;
             numbers = All-append (λ n. n < length body.locals) d.numbers rest.numbers one-done.numbers more.numbers;
@@ -588,3 +628,7 @@ module _ (p : Program) (k : Known) (q : CoreProgram) (body : Body) (first : Scop
 pub bodies_fit : BodiesFit
 bodies_fit p k q body first met returning represents has known result j s pr b h lengths = weaker _ _ (statements p k returning j s pr b) (walk-block p k q body first met returning represents has known result j s pr b lengths)
     (λ d y locals among. y.1 (record { locals = locals; met = among }) h)
+
+pub locals_are_typed : LocalsAreTyped
+locals_are_typed p k q body first met returning represents has known result j s pr b h lengths = weaker _ _ (statements p k returning j s pr b) (walk-block p k q body first met returning represents has known result j s pr b lengths)
+    (λ d y locals among. y.0.typed (record { locals = locals; met = among }) h)

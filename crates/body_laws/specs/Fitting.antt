@@ -1,9 +1,11 @@
 -- When what a body comes to fits.
-use Rattle.std.specs.Prelude.{◌≡◌, ℕ, ◌<◌, true, List, [], ◌∷◌, length}
+use Rattle.std.specs.Prelude.{◌≡◌, ℕ, ◌<◌, ◌≤◌, true, List, [], ◌∷◌, length, Some, slice_get}
 use Rattle.std.specs.List.{All}
+use Rattle.je_core.specs.declared.types.Ty.{Ty}
 use Rattle.je_core.specs.Core.{CoreProgram, CoreStmt}
 use Rattle.je_fitting.specs.Expressions.{Body}
 use Rattle.je_fitting.specs.Statements.{StatementFits, Targets}
+use Rattle.je_fitting.specs.Types.{is_variable_type}
 use Rattle.plain_programs.specs.Nodes.{every_expression}
 use Rattle.name_typing.specs.Program.{Program}
 use Rattle.body_typing.specs.Bodies.{Done}
@@ -22,6 +24,11 @@ module _ (program : CoreProgram) (body : Body) where
     none_fits : {j : Targets} → EachFits j []
     one_fits : {j : Targets} {c : CoreStmt} {cs : List CoreStmt} → StatementFitsAs j c → EachFits j cs →
         EachFits j (c ∷ cs)
+
+-- the locals of a body from one number on, before another one, have types of variables (JLS 4.3)
+abbrev pub AreTyped : CoreProgram → Body → ℕ → ℕ → Type 0
+AreTyped program body from to = (n : ℕ) (t : Ty) → from ≤ n → n < to → slice_get body.locals n ≡ Some t →
+    is_variable_type program t ≡ true
 
 -- its code fits, its locals are there, and the scope behind it stands
 pub record DoneFits (p : Program) (k : Known) (program : CoreProgram) (body : Body) (first : Scope) (j : Targets)

@@ -5,9 +5,14 @@
 //! The crate has no code: each function states laws of `body_typing`.
 #![tactic(auto)]
 
-ghost use Rattle.body_laws.specs.Laws.{BodiesFit};
+ghost use Rattle.body_laws.specs.Laws.{BodiesFit, LocalsAreTyped};
 
 /// The statements of a block fit (JLS 14.2).
 pub fn bodies_fit()
     ensures { BodiesFit }
+{}
+
+/// The locals that the statements of a block declare have types of variables (JLS 4.3, 14.4, 14.14, 14.20).
+pub fn locals_are_typed()
+    ensures { LocalsAreTyped }
 {}
