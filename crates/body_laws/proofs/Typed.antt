@@ -1,5 +1,5 @@
 -- How a walk goes on over a body, where the locals that it adds have types of variables.
-use Rattle.std.proofs.Common.{◌≡◌, ◌+◌, List, Some, sym, ◌∙◌, subst, arith, length-append}
+use Rattle.std.proofs.Common.{◌≡◌, ℕ, ◌+◌, List, Some, sym, ◌∙◌, subst, arith, length-append}
 use Rattle.std.specs.Prelude.{Bool, true, slice_get}
 use Rattle.std.proofs.lemmas.Bool.{cases_lt}
 use Rattle.std.proofs.lemmas.Option.{same_Some}
@@ -17,6 +17,12 @@ use Rattle.body_laws.specs.Fitting.{AreTyped}
 use Rattle.body_laws.proofs.Grows.{Grows, Knows, number-there}
 use Rattle.body_laws.proofs.Grows as plain
 
+-- from one number on to another one, and from there on
+pub typed-on : (q : CoreProgram) (body : Body) (from between to : ℕ) → AreTyped q body from between → AreTyped q body between to →
+    AreTyped q body from to
+typed-on q body from between to f g n t le l e =
+    by_either (λ less. f n t le less e) (λ more. g n t more l e) (cases_lt n between)
+
 -- it goes on, and where a claim holds, the further locals have types of variables
 pub record Grown (q : CoreProgram) (body : Body) (all : List Met) (Claim : Type 0) (pr further : Progress) : Type 0 where
   pub grows : Grows pr further
@@ -29,8 +35,7 @@ module _ {q : CoreProgram} {body : Body} {all : List Met} {Claim : Type 0} where
   pub on : {a b c : Progress} → Grown q body all Claim a b → Grown q body all Claim b c → Grown q body all Claim a c
   on {b = b} g h = record {
     grows = plain.on g.grows h.grows;
-    typed = λ k claim n t from to e. by_either (λ less. g.typed (before h k) claim n t from less e)
-        (λ more. h.typed k claim n t more to e) (cases_lt n (next_number b));
+    typed = λ k claim. typed-on q body _ (next_number b) _ (g.typed (before h k) claim) (h.typed k claim);
   }
 
   -- by another claim, which gives this one

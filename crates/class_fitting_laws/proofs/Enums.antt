@@ -17,7 +17,7 @@ use Rattle.je_classes.specs.Members.{In, first, further, names_constructors}
 use Rattle.je_classes.specs.Subtypes.{class_type}
 use Rattle.je_fitting.specs.Expressions.{AllFit, Body, CapturesFit, Fits}
 use Rattle.je_fitting.specs.Expressions as fits
-use Rattle.je_fitting.specs.Members.{BodyFits, a_block, code_of as code_kind, body_of, local_types}
+use Rattle.je_fitting.specs.Members.{AreVariables, BodyFits, a_block, code_of as code_kind, body_of, local_types}
 use Rattle.je_fitting.specs.Statements as block
 use Rattle.je_fitting.specs.Types.{agrees, all_agree, int, is_variable_type, is_void, string, types_of}
 use Rattle.je_fitting.proofs.Booleans.{two}
@@ -66,7 +66,10 @@ module _ (number : List ℕ → NameId) (texts : List (List ℕ)) (c : ℕ) (spa
   made-fits all body at id h = fits.new stands.class_there stands.made stands.method_there stands.builds (arguments-fit all body at id h) (arguments-agree all) (record { fields = sym stands.nothing_handed; each = All-nil _ })
 
   constant-made : (at : ℕ) (id : Identifier) → at < length ids → InitializerCodeFits q (class_numbered c) (enum.constant_made number texts c span ids at id)
-  constant-made at id few all h = block.perform (fits.assign refl (constant-fits all start at id.span few) (fits.an_own_static refl) (made-fits all start at id h) (itself all ty refl) (itself all ty refl))
+  constant-made at id few = record {
+    locals = All-nil _;
+    body = λ all h. block.perform (fits.assign refl (constant-fits all start at id.span few) (fits.an_own_static refl) (made-fits all start at id h) (itself all ty refl) (itself all ty refl));
+  }
 
   pub constants-made : (at : ℕ) (rest : List Identifier) → at + length rest ≤ length ids → (i : CoreInitializer) → In (enum.constants_made number texts c span ids at rest) i → InitializerCodeFits q (class_numbered c) i
   constants-made at [] few i h = elim h [ ]
@@ -112,18 +115,24 @@ module _ (number : List ℕ → NameId) (texts : List (List ℕ)) (c : ℕ) (spa
 
   -- ---- each of its methods
 
-  method-with : (m : CoreMethod) (body : CoreStmt) → m.body ≡ Some body → take (length m.params) (local_types m.locals) ≡ m.params
+  method-with : (m : CoreMethod) (body : CoreStmt) → m.body ≡ Some body → AreVariables q m.params → AreVariables q (local_types m.locals) → take (length m.params) (local_types m.locals) ≡ m.params
       → ((all : List (List ℕ)) → BodyFits (with_texts q all) (body_of q (class_numbered c) m) superclass body) → MethodCodeFits q (class_numbered c) superclass m
-  method-with m body is locals f = record {
+  method-with m body is variables local-variables locals f = record {
+    params = variables;
+    locals = local-variables;
     first_locals = λ _. locals;
     body = λ s e all h. subst (BodyFits (with_texts q all) (body_of q (class_numbered c) m) superclass) (same-some body s (sym is ∙ e)) (f all);
   }
 
-  pub methods-fit : names_constructors q (number (codes "new")) ≡ true → (m : CoreMethod) → In (enum.enum_code number texts c span ids) m → MethodCodeFits q (class_numbered c) superclass m
-  methods-fit named _ first = method-with _ _ refl refl (λ all. let builds = ap (λ (b : Bool). fits.builds (code_kind b)) named in
+  -- a name and a place
+  kept-types : is_variable_type q string ≡ true → AreVariables q (string ∷ int ∷ [])
+  kept-types text = All-cons (λ t. is_variable_type q t ≡ true) string (int ∷ []) text (All-cons (λ t. is_variable_type q t ≡ true) int [] refl (All-nil _))
+
+  pub methods-fit : is_variable_type q string ≡ true → names_constructors q (number (codes "new")) ≡ true → (m : CoreMethod) → In (enum.enum_code number texts c span ids) m → MethodCodeFits q (class_numbered c) superclass m
+  methods-fit text named _ first = method-with _ _ refl (kept-types text) (kept-types text) refl (λ all. let builds = ap (λ (b : Bool). fits.builds (code_kind b)) named in
       a_block (block.block (All-nil _) (block.more_statements (kept-fits _ refl refl all enum.name_place string builds stands.name refl refl) (block.more_statements (kept-fits _ refl refl all enum.ordinal_place int builds stands.ordinal refl refl) block.no_statements))))
-  methods-fit named _ (further first) = method-with _ _ refl refl (λ all. returned _ refl refl all enum.name_place string refl stands.name refl)
-  methods-fit named _ (further (further first)) = method-with _ _ refl refl (λ all. returned _ refl refl all enum.name_place string refl stands.name refl)
-  methods-fit named _ (further (further (further first))) = method-with _ _ refl refl (λ all. returned _ refl refl all enum.ordinal_place int refl stands.ordinal refl)
-  methods-fit named _ (further (further (further (further first)))) = method-with _ _ refl refl (λ all. values-fit all _ refl)
-  methods-fit named m (further (further (further (further (further h))))) = elim h [ ]
+  methods-fit text named _ (further first) = method-with _ _ refl (All-nil _) (All-nil _) refl (λ all. returned _ refl refl all enum.name_place string refl stands.name refl)
+  methods-fit text named _ (further (further first)) = method-with _ _ refl (All-nil _) (All-nil _) refl (λ all. returned _ refl refl all enum.name_place string refl stands.name refl)
+  methods-fit text named _ (further (further (further first))) = method-with _ _ refl (All-nil _) (All-nil _) refl (λ all. returned _ refl refl all enum.ordinal_place int refl stands.ordinal refl)
+  methods-fit text named _ (further (further (further (further first)))) = method-with _ _ refl (All-nil _) (All-nil _) refl (λ all. values-fit all _ refl)
+  methods-fit text named m (further (further (further (further (further h))))) = elim h [ ]

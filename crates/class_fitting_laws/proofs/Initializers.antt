@@ -1,8 +1,9 @@
 -- Initializers of a class, and of its fields, fit (JLS 8.3.2, 8.6, 8.7).
-use Rattle.std.proofs.Common.{◌≡◌, ℕ, suc, ◌≤◌, List, [], Option, Some, None, refl, sym, ap, ◌∙◌, subst, arith}
+use Rattle.std.proofs.Common.{◌≡◌, ℕ, suc, ◌≤◌, List, [], length, get_or, Option, Some, None, refl, sym, ap, ◌∙◌, subst, arith}
 use Rattle.std.specs.Prelude.{Bool, true, false, option_map, slice_get, if◌then◌else◌}
-use Rattle.std.proofs.lemmas.List.Elements.{All-nil}
-use Rattle.std.proofs.lemmas.Option.{slice_get-map}
+use Rattle.std.proofs.lemmas.List.{length-map}
+use Rattle.std.proofs.lemmas.List.Elements.{All-from_get_or, All-nil}
+use Rattle.std.proofs.lemmas.Option.{slice_get-get_or, slice_get-map}
 use Rattle.je_base.specs.declared.span.Span.{Span}
 use Rattle.je_core.specs.declared.program.Local.{Local as LocalOf}
 use Rattle.je_core.specs.declared.types.ClassId.{ClassId}
@@ -18,9 +19,9 @@ use Rattle.je_classes.specs.Subtypes.{class_type, is_subtype}
 use Rattle.je_classes.proofs.Sets.{by_either, in-either}
 use Rattle.je_fitting.specs.Expressions.{Body, Fits, IsPlace, field_at}
 use Rattle.je_fitting.specs.Expressions as fits
-use Rattle.je_fitting.specs.Members.{initializer_code, local_types}
+use Rattle.je_fitting.specs.Members.{AreVariables, initializer_code, local_types}
 use Rattle.je_fitting.specs.Statements.{no_targets}
-use Rattle.je_fitting.specs.Types.{agrees}
+use Rattle.je_fitting.specs.Types.{agrees, int, is_variable_type}
 use Rattle.je_fitting.proofs.Booleans.{two}
 use Rattle.je_scopes.specs.Sites.{context_of, initializer_context}
 use Rattle.plain_programs.specs.Nodes.{every}
@@ -56,8 +57,10 @@ use Rattle.fitting_laws.proofs.Lists.{in-one}
 use Rattle.fitting_laws.proofs.Sound.{sound-dims, type-dims, wider}
 use Rattle.fitting_laws.proofs.Walk.{expressions_fit, used-value}
 use Rattle.body_laws.specs.Bodies.{BodyStands, HasLocals, IsInBody, same}
+use Rattle.body_laws.specs.Fitting.{AreTyped}
 use Rattle.body_laws.specs.Written.{BodyIsWritten, IsWritten}
 use Rattle.body_laws.proofs.Declared.{sound-value}
+use Rattle.body_laws.proofs.Grows.{Knows}
 use Rattle.body_laws.proofs.Mentions.{expression-stands}
 use Rattle.body_laws.proofs.Values.{performed-fits, under}
 use Rattle.body_laws.proofs.Walk.{Block, any, block-fits, walk-block}
@@ -75,6 +78,11 @@ for-each P (faulty fault) h = tt
 pub by-given : {A : Type 0} (K P : A → Type 0) (j : Judged A) → ((a : A) → j ≡ gives a → K a) → Gives (λ a. K a → P a) j → Gives P j
 by-given K P (gives a) f h = h (f a refl)
 by-given K P (faulty fault) f h = tt
+
+-- types of a body's locals that are those of variables
+pub typed-locals : (q : CoreProgram) (body : Body) (ls : List LocalOf) → body.locals ≡ local_types ls → AreTyped q body 0 (length ls) → AreVariables q (local_types ls)
+typed-locals q body ls e typed = All-from_get_or (λ t. is_variable_type q t ≡ true) (local_types ls) int (λ n l.
+    typed n (get_or (local_types ls) n int) (omega arith) (omega (arith, l, length-map ls (λ (x : LocalOf). x.ty))) (ap (λ (ts : List Ty). slice_get ts n) e ∙ slice_get-get_or (local_types ls) n int l))
 
 -- a body with the locals of a walk has them
 pub own-locals : (body : Body) (pr : Progress) → body.locals ≡ local_types pr.locals → HasLocals body pr
@@ -124,11 +132,18 @@ module _ (p : Program) (k : Known) (q : CoreProgram) (c : ℕ) (round : List Fra
     Coded d = InitializersStand p k q c round first d → Code d
 
     block-code : (opening closing : Span) (d : Done) → Walked d → Coded (members.initializer_code p k c round (is_static_word p k c round word) opening closing d)
-    block-code opening closing d w known = record {
-      initializers = λ i h. subst (InitializerCodeFits q (class_numbered c)) (sym (in-one _ i h)) (block-fits p k q (block-body word (local_types d.progress.locals)) first d.progress.met never represents has (known _ at_first) tt no_targets opening closing d
-          ((w (local_types d.progress.locals, d.progress.met, known _ at_first)).1 (record { locals = own-locals (block-body word (local_types d.progress.locals)) d.progress refl; met = λ m i. i }) (block-begins word fields (local_types d.progress.locals))));
-      methods = λ m h. elim h [ ];
-    }
+    block-code opening closing d w known =
+        let own = block-body word (local_types d.progress.locals) in
+        let walked = w (local_types d.progress.locals, d.progress.met, known _ at_first) in
+        let knows : Knows own d.progress.met d.progress = record { locals = own-locals own d.progress refl; met = λ m i. i } in
+        let starts = block-begins word fields (local_types d.progress.locals) in
+        record {
+          initializers = λ i h. subst (InitializerCodeFits q (class_numbered c)) (sym (in-one _ i h)) (record {
+            locals = typed-locals q own d.progress.locals refl (walked.0.typed knows starts);
+            body = block-fits p k q own first d.progress.met never represents has (known _ at_first) tt no_targets opening closing d (walked.1 knows starts);
+          });
+          methods = λ m h. elim h [ ];
+        }
 
     pub initializer-fits : (opening closing : Span) (ss : Statements) → BodyIsWritten ss
         → ((d : MembersDone) → bind (statements p k never no_targets first nothing_met ss) (λ d. gives (members.initializer_code p k c round (is_static_word p k c round word) opening closing d)) ≡ gives d → InitializersStand p k q c round first d)
@@ -185,7 +200,10 @@ module _ (p : Program) (k : Known) (q : CoreProgram) (c : ℕ) (round : List Fra
         (ap (agrees (with_texts q texts) (erased p.heads f.ty)) place.type ∙ agrees-itself (with_texts q texts) (erased p.heads f.ty).base (erased p.heads f.ty).dims (erased-not-void p.heads represents.heads.bounds f.ty value))
 
     field-initialized : is_void f.ty ≡ false → (n : Core) → PassesAs q (field-body f.is_static) p.heads f.ty n → InitializerCodeFits q (class_numbered c) (field_initializer p k c round f at span n)
-    field-initialized value n passed = performed-fits q (field-body f.is_static) no_targets span (node (core.Assign (place-of f.is_static) n) (erased p.heads f.ty) span span) (assigned-node f.is_static refl value n passed)
+    field-initialized value n passed = record {
+      locals = All-nil _;
+      body = performed-fits q (field-body f.is_static) no_targets span (node (core.Assign (place-of f.is_static) n) (erased p.heads f.ty) span span) (assigned-node f.is_static refl value n passed);
+    }
 
   module _ (f : DeclaredField) (at : ℕ) (id : Identifier) (e : Expression) (there : declared_at p.classes (member c at) ≡ Some f) where
     abbrev scope-of : Scope

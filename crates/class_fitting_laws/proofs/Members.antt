@@ -119,21 +119,26 @@ module _ (p : Program) (k : Known) (q : CoreProgram) (c : ℕ) (round : List Fra
         head-block _ no_head f texts h = a_block (block-fits p k q own-body first d.progress.met no_value represents has known.0 (result types) no_targets opening closing d f texts h)
         head-block _ (one_head {t = t} g) f texts h = let s = two {a = every (stands_once texts) t.node} h in behind_a_call (ap code_kind stands.constructors) f.numbers (g texts s.0) (parts-fit f.code texts s.1)
 
+        all-known : Knows own-body d.progress.met d.progress
+        all-known = record { locals = own-locals own-body d.progress refl; met = λ x i. i }
+
+        own-scope : Walked d → IsInBody p k q own-body first b.scope
+        own-scope w = begun.scope own-body first d.progress.met (before (grows-met (met_in_head p b.scope call) b.progress) (before (w all).0.grows all-known)) sound (in-body types)
+
         finished : (calls : List TypedNode) → Called calls → Walked d → (s : CoreStmt) → ◌≡◌ {A = Option CoreStmt} (Some (block_of opening closing (with_head p k c round opening call calls d))) (Some s) → (texts : List (List ℕ))
             → every_expression (stands_once texts) s ≡ true → BodyFits (with_texts q texts) own-body superclass s
         finished calls f w s e texts h =
-            let knows : Knows own-body d.progress.met d.progress = record { locals = own-locals own-body d.progress refl; met = λ x i. i } in
             let done = w all in
-            let behind-knows = before done.0 knows in
-            let scope = begun.scope own-body first d.progress.met (before (grows-met (met_in_head p b.scope call) b.progress) behind-knows) sound (in-body types) in
+            let behind-knows = before done.0.grows all-known in
+            let scope = own-scope w in
             let code = block_of opening closing (with_head p k c round opening call calls d) in
             subst (BodyFits (with_texts q texts) own-body superclass) (same-some code s e)
-            (head-block calls (f all (met-there (met_in_head p b.scope call) b.progress behind-knows, scope)) (done.1 knows scope) texts (subst (λ (x : CoreStmt). every_expression (stands_once texts) x ≡ true) (sym (same-some code s e)) h))
+            (head-block calls (f all (met-there (met_in_head p b.scope call) b.progress behind-knows, scope)) (done.1 all-known scope) texts (subst (λ (x : CoreStmt). every_expression (stands_once texts) x ≡ true) (sym (same-some code s e)) h))
 
         constructor-done : (calls : List TypedNode) → Called calls → Walked d → Finished (constructor_code p k c round at id m call calls opening closing d)
         constructor-done calls f w = only-method p k q c round superclass represents has stands (constructor_code p k c round at id m call calls opening closing d) _ refl refl
             (one-method p k q c round superclass represents has stands name id.span m first b d.progress (Some (block_of opening closing (with_head p k c round opening call calls d))) begun
-            (on (grows-met (met_in_head p b.scope call) b.progress) (w all).0) (λ s e texts h. finished calls f w s e texts h))
+            (on (grows-met (met_in_head p b.scope call) b.progress) (w all).0.grows) sound ((w all).0.typed all-known (own-scope w)) (λ s e texts h. finished calls f w s e texts h))
 
     abbrev Known-bodies : MembersDone → Type 0
     Known-bodies d = MethodsStand p k q c round first d × MethodsStand p k q c round (in_arguments first) d

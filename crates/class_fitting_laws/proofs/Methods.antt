@@ -1,7 +1,9 @@
 -- Methods and constructors that a class writes fit (JLS 8.4, 8.8).
-use Rattle.std.proofs.Common.{◌≡◌, ℕ, zero, suc, ◌≤◌, List, [], ◌∷◌, ◌++◌, length, map, Option, Some, None, refl, sym, ap, ◌∙◌, subst, arith}
+use Rattle.std.proofs.Common.{◌≡◌, ℕ, zero, suc, ◌<◌, ◌≤◌, List, [], ◌∷◌, ◌++◌, length, get_or, map, Option, Some, None, refl, sym, ap, ◌∙◌, subst, arith}
 use Rattle.std.specs.Prelude.{Bool, true, false, option_map, slice_get, take, if◌then◌else◌}
-use Rattle.std.proofs.lemmas.Option.{none-some, slice_get-map}
+use Rattle.std.proofs.lemmas.List.{length-map}
+use Rattle.std.proofs.lemmas.List.Elements.{All-cons, All-get_or, All-nil}
+use Rattle.std.proofs.lemmas.Option.{none-some, slice_get-get_or, slice_get-map}
 use Rattle.je_base.specs.declared.span.NameId.{NameId}
 use Rattle.je_base.specs.declared.span.Span.{Span}
 use Rattle.je_core.specs.declared.program.Local.{Local as LocalOf}
@@ -15,8 +17,9 @@ use Rattle.je_ast.specs.Trees as tree
 use Rattle.je_ast.specs.Types.{FormalParameter}
 use Rattle.je_classes.specs.Members.{In, first as at_first, further as and_further, names_constructors}
 use Rattle.je_fitting.specs.Expressions.{Body}
-use Rattle.je_fitting.specs.Members.{BodyFits, a_block, code_of as code_kind, local_types}
+use Rattle.je_fitting.specs.Members.{AreVariables, BodyFits, a_block, code_of as code_kind, local_types}
 use Rattle.je_fitting.specs.Statements.{no_targets}
+use Rattle.je_fitting.specs.Types.{is_variable_type}
 use Rattle.je_scopes.specs.Sites.{context_of}
 use Rattle.je_scopes.specs.SourceTypes.{SourceType, of_class, of_variable, plain}
 use Rattle.plain_programs.specs.Nodes.{every_expression}
@@ -42,17 +45,18 @@ use Rattle.fitting_laws.specs.Represented.{Represents}
 use Rattle.fitting_laws.specs.Sound.{IsSound}
 use Rattle.fitting_laws.proofs.Gives.{behind, behind-check, weaker}
 use Rattle.fitting_laws.proofs.Lists.{in-one}
-use Rattle.fitting_laws.proofs.Sound.{wider}
+use Rattle.fitting_laws.proofs.Sound.{sound-variable, wider}
 use Rattle.body_laws.specs.Bodies.{BodyStands, IsInBody, Returns}
-use Rattle.body_laws.specs.Fitting.{DoneFits}
+use Rattle.body_laws.specs.Fitting.{AreTyped, DoneFits}
 use Rattle.body_laws.specs.Written.{BodyIsWritten}
 use Rattle.body_laws.proofs.Grows.{Grows, Knows, before, grows-not, grows-number, number-there, on}
 use Rattle.body_laws.proofs.Scopes.{with-local}
+use Rattle.body_laws.proofs.Typed.{typed-on}
 use Rattle.body_laws.proofs.Walk.{Block, block-fits, walk-block}
 use Rattle.class_fitting_laws.specs.Classes.{ClassStands}
 use Rattle.class_fitting_laws.specs.Fitting.{CodeFits, MethodCodeFits}
 use Rattle.class_fitting_laws.specs.Written.{BlockIsWritten, MethodsStand}
-use Rattle.class_fitting_laws.proofs.Initializers.{Code, by-given, for-each, no-code, own-locals}
+use Rattle.class_fitting_laws.proofs.Initializers.{Code, by-given, for-each, no-code, own-locals, typed-locals}
 use Rattle.class_fitting_laws.proofs.Scopes.{begins}
 
 -- ---- the first of a list
@@ -170,11 +174,30 @@ module _ (p : Program) (k : Known) (q : CoreProgram) (c : ℕ) (round : List Fra
   own-context false e = refl
   own-context true e = absurd cc
 
+  erased-variables : (ts : List SourceType) → ((t : SourceType) → In ts t → IsSound q p.heads 255 t) → AreVariables q (map (erased p.heads) ts)
+  erased-variables [] sound = All-nil _
+  erased-variables (t ∷ ts) sound = All-cons (λ u. is_variable_type q u ≡ true) (erased p.heads t) (map (erased p.heads) ts)
+      (sound-variable q p.heads represents.heads (omega arith) (sound t at_first)) (erased-variables ts (λ u i. sound u (and_further i)))
+
+  -- parameters have types of variables, as the first locals
+  parameters-typed : (body : Body) (s : Scope) (ts : List SourceType) (b : Begun) (final : Progress) → body.locals ≡ local_types final.locals → ParametersStand p k q c round s nothing_met ts b → Grows b.progress final
+      → AreVariables q (map (erased p.heads) ts) → AreTyped q body 0 (length b.progress.locals)
+  parameters-typed body s ts b final e begun grows variables n t from to at-n =
+      let params = map (erased p.heads) ts in
+      let within : n < length params = omega (arith, to, ap length begun.types, length-map b.progress.locals (λ (x : LocalOf). x.ty)) in
+      let here = types-grow grows n (get_or params n t) (ap (λ (us : List Ty). slice_get us n) begun.types ∙ slice_get-get_or params n t within) in
+      let same = same-some (get_or params n t) t (sym here ∙ ap (λ (us : List Ty). slice_get us n) (sym e) ∙ at-n) in
+      subst (λ u. is_variable_type q u ≡ true) same (All-get_or (λ u. is_variable_type q u ≡ true) params n t within variables)
+
   -- the code of one method or constructor, from where its parameters are done
   pub one-method : (name : NameId) (span : Span) (m : DeclaredMethod) (s : Scope) (b : Begun) (final : Progress) (body : Option CoreStmt) → ParametersStand p k q c round s nothing_met m.parameters b → Grows b.progress final
+      → ((t : SourceType) → In m.parameters t → IsSound q p.heads 255 t) → AreTyped q (body-with p k q c round name m (local_types final.locals)) (length b.progress.locals) (length final.locals)
       → ((t : CoreStmt) → body ≡ Some t → (texts : List (List ℕ)) → every_expression (stands_once texts) t ≡ true → BodyFits (with_texts q texts) (body-with p k q c round name m (local_types final.locals)) superclass t)
       → MethodCodeFits q (class_numbered c) superclass (code_of p k c round name span m final.locals body)
-  one-method name span m s b final body begun grows fits = record {
+  one-method name span m s b final body begun grows sound typed fits = record {
+    params = erased-variables m.parameters sound;
+    locals = typed-locals q (body-with p k q c round name m (local_types final.locals)) final.locals refl (typed-on q (body-with p k q c round name m (local_types final.locals)) 0 (length b.progress.locals) (length final.locals)
+        (parameters-typed (body-with p k q c round name m (local_types final.locals)) s m.parameters b final refl begun grows (erased-variables m.parameters sound)) typed);
     first_locals = λ _. take-first (map (erased p.heads) m.parameters) (local_types final.locals) (λ n x e. types-grow grows n x (ap (λ (ts : List Ty). slice_get ts n) begun.types ∙ e));
     body = fits;
   }
@@ -203,7 +226,7 @@ module _ (p : Program) (k : Known) (q : CoreProgram) (c : ℕ) (round : List Fra
     Stands final = BodyStands p k q (with-locals (local_types final.locals)) first final.met
 
     abbrev Done-body : Begun → BodyDone → Type 0
-    Done-body b d = Stands d.progress → Grows b.progress d.progress × ((s : CoreStmt) → d.body ≡ Some s → (texts : List (List ℕ)) → every_expression (stands_once texts) s ≡ true
+    Done-body b d = Stands d.progress → Grows b.progress d.progress × AreTyped q (with-locals (local_types d.progress.locals)) (length b.progress.locals) (length d.progress.locals) × ((s : CoreStmt) → d.body ≡ Some s → (texts : List (List ℕ)) → every_expression (stands_once texts) s ≡ true
         → BodyFits (with_texts q texts) (with-locals (local_types d.progress.locals)) superclass s)
 
     abbrev Whichever : Type 0
@@ -216,24 +239,33 @@ module _ (p : Program) (k : Known) (q : CoreProgram) (c : ℕ) (round : List Fra
     walked b ss lengths = for-each (λ (i : Whichever) d. Block p k q (with-locals i.0) first i.1 (returning_of m.result) represents has i.2 (returns-it p k q c round id.name m i.0 few) no_targets b.scope b.progress d) (statements p k (returning_of m.result) no_targets b.scope b.progress ss)
         (λ i. walk-block p k q (with-locals i.0) first i.1 (returning_of m.result) represents has i.2 (returns-it p k q c round id.name m i.0 few) no_targets b.scope b.progress ss lengths)
 
+    all-known : (d : Done) → Knows (with-locals (local_types d.progress.locals)) d.progress.met d.progress
+    all-known d = record { locals = own-locals (with-locals (local_types d.progress.locals)) d.progress refl; met = λ x i. i }
+
     finished : (b : Begun) (d : Done) → ParametersStand p k q c round first nothing_met m.parameters b → Walked b d → Stands d.progress → DoneFits p k q (with-locals (local_types d.progress.locals)) first no_targets d
     finished b d begun w known =
         let own = local_types d.progress.locals in
         let done = w (own, d.progress.met, known) in
-        let knows : Knows (with-locals own) d.progress.met d.progress = record { locals = own-locals (with-locals own) d.progress refl; met = λ x i. i } in
-        done.1 knows (begun.scope (with-locals own) first d.progress.met (before done.0 knows) sound (in-body own))
+        done.1 (all-known d) (begun.scope (with-locals own) first d.progress.met (before done.0.grows (all-known d)) sound (in-body own))
+
+    typed : (b : Begun) (d : Done) → ParametersStand p k q c round first nothing_met m.parameters b → Walked b d → Stands d.progress → AreTyped q (with-locals (local_types d.progress.locals)) (length b.progress.locals) (length d.progress.locals)
+    typed b d begun w known =
+        let own = local_types d.progress.locals in
+        let done = w (own, d.progress.met, known) in
+        done.0.typed (all-known d) (begun.scope (with-locals own) first d.progress.met (before done.0.grows (all-known d)) sound (in-body own))
 
     block-code : (b : Begun) (opening closing : Span) (d : Done) → ParametersStand p k q c round first nothing_met m.parameters b → Walked b d → Done-body b (record { body = Some (block_of opening closing d); progress = d.progress })
     block-code b opening closing d begun w known =
         let own = local_types d.progress.locals in (
-          (w (own, d.progress.met, known)).0,
+          (w (own, d.progress.met, known)).0.grows,
+          typed b d begun w known,
           λ s e texts h. subst (BodyFits (with_texts q texts) (with-locals own) superclass) (same-some (block_of opening closing d) s e)
               (a_block (block-fits p k q (with-locals own) first d.progress.met (returning_of m.result) represents has known (returns-it p k q c round id.name m own few) no_targets opening closing d
               (finished b d begun w known) texts (subst (λ (x : CoreStmt). every_expression (stands_once texts) x ≡ true) (sym (same-some (block_of opening closing d) s e)) h))),
         )
 
     body-fits : (b : Begun) (block : MaybeBlock) → BlockIsWritten block → ParametersStand p k q c round first nothing_met m.parameters b → Gives (Done-body b) (body_if p k c round (returning_of m.result) b block)
-    body-fits b tree.no_block lengths begun = λ known. (grows-not b.progress, λ s e texts h. absurd (none-some s e))
+    body-fits b tree.no_block lengths begun = λ known. (grows-not b.progress, λ n t from to e. absurd (omega (arith, from, to)), λ s e texts h. absurd (none-some s e))
     body-fits b (tree.a_block opening ss closing) lengths begun = behind (Walked b) (Done-body b) (statements p k (returning_of m.result) no_targets b.scope b.progress ss) (λ d. gives (record { body = Some (block_of opening closing d); progress = d.progress }))
         (walked b ss lengths) (λ d w. block-code b opening closing d begun w)
 
@@ -243,7 +275,7 @@ module _ (p : Program) (k : Known) (q : CoreProgram) (c : ℕ) (round : List Fra
     coded : (fs : List FormalParameter) (block : MaybeBlock) → BlockIsWritten block → length fs ≡ length m.parameters → Gives Coded (method p k c round id fs block (Some m))
     coded fs block lengths e = behind (ParametersStand p k q c round first nothing_met m.parameters) Coded (parameters p k c round first nothing_met fs m.parameters) _ (parameters-stand p k q c round first nothing_met fs m.parameters e) (λ b begun.
         behind (Done-body b) Coded (body_if p k c round (returning_of m.result) b block) (λ d. gives (method_code p k c round id m d)) (body-fits b block lengths begun)
-        (λ d f known. let done = f (known _ at_first) in only-method (method_code p k c round id m d) _ refl refl (one-method id.name id.span m first b d.progress d.body begun done.0 done.1)))
+        (λ d f known. let done = f (known _ at_first) in only-method (method_code p k c round id m d) _ refl refl (one-method id.name id.span m first b d.progress d.body begun done.0 sound done.1 done.2)))
 
     pub method-fits : (fs : List FormalParameter) (block : MaybeBlock) → BlockIsWritten block → length fs ≡ length m.parameters → ((d : MembersDone) → method p k c round id fs block (Some m) ≡ gives d → MethodsStand p k q c round first d)
         → Gives Finished (method p k c round id fs block (Some m))

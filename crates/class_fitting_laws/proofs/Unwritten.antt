@@ -1,5 +1,5 @@
 -- All members of a class come to what fits, with those that no source writes.
-use Rattle.std.proofs.Common.{◌≡◌, ℕ, zero, suc, ◌+◌, List, [], ◌∷◌, length, map, Option, Some, None, refl, ap, ◌∙◌, subst, inr, arith}
+use Rattle.std.proofs.Common.{◌≡◌, ℕ, zero, suc, ◌+◌, List, [], ◌∷◌, length, map, Option, Some, None, refl, sym, ap, ◌∙◌, subst, inr, arith}
 use Rattle.std.specs.Prelude.{Bool, true, false, ◌&&◌, codes, nat_eq, not, slice_get, take, if◌then◌else◌}
 use Rattle.std.specs.List.{AllByRecursion, find}
 use Rattle.std.proofs.lemmas.Bool.Decides.{nat_tests}
@@ -19,7 +19,7 @@ use Rattle.je_classes.specs.Subtypes.{same_base}
 use Rattle.je_classes.proofs.Lists.{bool_cases}
 use Rattle.je_fitting.specs.Expressions.{AllFit, Body}
 use Rattle.je_fitting.specs.Expressions as fits
-use Rattle.je_fitting.specs.Members.{BodyFits, a_block, behind_a_call, code_of as code_kind, head_call as a_head, local_types}
+use Rattle.je_fitting.specs.Members.{AreVariables, BodyFits, a_block, behind_a_call, code_of as code_kind, head_call as a_head, local_types}
 use Rattle.je_fitting.specs.Statements as block
 use Rattle.je_fitting.specs.Types.{agrees, all_agree, holds_something, is_there, is_variable_type, is_void, types_of, void}
 use Rattle.je_fitting.proofs.Booleans.{two}
@@ -100,6 +100,8 @@ module _ (p : Program) (k : Known) (q : CoreProgram) (c : ℕ) (round : List Fra
   default-fits = behind (λ t. Unit {0}) Finished (implicit_constructor_call p (scope_in p k c round instance None true).place (class_span p k c round)) (λ t. gives (default_code p k c round))
       (any (implicit_constructor_call p (scope_in p k c round instance None true).place (class_span p k c round)))
       (λ t _. only-method p k q c round superclass represents has stands (default_code p k c round) _ refl refl (record {
+        params = All-nil _;
+        locals = All-nil _;
         first_locals = λ _. refl;
         body = λ s e all h. subst (BodyFits (with_texts q all) _ superclass) (same-some _ s e) (a_block (block.block (All-nil _) block.no_statements));
       }))
@@ -108,6 +110,8 @@ module _ (p : Program) (k : Known) (q : CoreProgram) (c : ℕ) (round : List Fra
 
   anonymous-code : (m : Candidate) → IsHandedTo p q superclass m → Finished (anonymous_code p k c round m)
   anonymous-code m h = only-method p k q c round superclass represents has stands (anonymous_code p k c round m) _ refl refl (record {
+    params = h.variables;
+    locals = subst (AreVariables q) (sym same-types) h.variables;
     first_locals = λ _. ap (take (length types)) same-types ∙ take-all types;
     body = λ s e all x. subst (BodyFits (with_texts q all) own-body superclass) (same-some _ s e)
         (behind_a_call (ap code_kind stands.constructors) (All-nil _)
@@ -142,7 +146,7 @@ module _ (p : Program) (k : Known) (q : CoreProgram) (c : ℕ) (round : List Fra
   enum-fits : (ids : List Identifier) → EnumStands q c (length ids) → Finished (enum_members p k c round ids)
   enum-fits ids h = record {
     initializers = λ i x. constants-made (number p k c round) p.source.texts c (class_span p k c round) ids q superclass h 0 ids (omega arith) i x;
-    methods = λ m x. methods-fit (number p k c round) p.source.texts c (class_span p k c round) ids q superclass h stands.constructors m x;
+    methods = λ m x. methods-fit (number p k c round) p.source.texts c (class_span p k c round) ids q superclass h (ap (λ b. b && true) represents.string) stands.constructors m x;
   }
 
   -- ---- what no source writes

@@ -1,7 +1,7 @@
 -- The code of the classes of a source fits, with the constant strings of the program.
 use Rattle.std.proofs.Common.{◌≡◌, ℕ, ◌≤◌, Some, ap, subst}
 use Rattle.std.specs.Prelude.{is_some}
-use Rattle.je_core.specs.Core.{CoreClass, CoreProgram}
+use Rattle.je_core.specs.Core.{CoreClass, CoreInitializer, CoreMethod, CoreProgram}
 use Rattle.je_classes.specs.Hierarchy.{class_at}
 use Rattle.je_classes.specs.Members.{In}
 use Rattle.je_scopes.specs.Source.{Source}
@@ -53,13 +53,22 @@ module _ (source : Source) (program : CoreProgram) (e : IsElaborated source prog
         (named_first (declared source program e) c) represents has-methods class-stands e.first.met (hidden_count source (captured_by source e.first) c)
         bodies.written bodies.unwritten)
 
+    initializer-fits : (i : CoreInitializer) → In class.initializers i →
+        members.InitializerCodeFits program (class_numbered c) i
+    initializer-fits i q = done-fits.initializers i (subst (λ (k : CoreClass). In k.initializers i) made.is q)
+
+    method-fits : (m : CoreMethod) → In class.methods m →
+        members.MethodCodeFits program (class_numbered c) (named_first (declared source program e) c) m
+    method-fits m q = done-fits.methods m (subst (λ (k : CoreClass). In k.methods m) made.is q)
+
     class-fits : ClassCodeFits program (class_numbered c) class (named_first (declared source program e) c)
     class-fits = let texts = texts_stand source program e c class le there in record {
-      initializers = λ i q. done-fits.initializers i (subst (λ (k : CoreClass). In k.initializers i) made.is q) program.texts
-          (texts.initializers i q);
-      first_locals = λ m q. (done-fits.methods m (subst (λ (k : CoreClass). In k.methods m) made.is q)).first_locals;
-      bodies = λ m s q b. (done-fits.methods m (subst (λ (k : CoreClass). In k.methods m) made.is q)).body s b program.texts
-          (texts.methods m s q b);
+      initializers = λ i q. (initializer-fits i q).body program.texts (texts.initializers i q);
+      initializer_locals = λ i q. (initializer-fits i q).locals;
+      params = λ m q. (method-fits m q).params;
+      locals = λ m q. (method-fits m q).locals;
+      first_locals = λ m q. (method-fits m q).first_locals;
+      bodies = λ m s q b. (method-fits m q).body s b program.texts (texts.methods m s q b);
     }
 
 pub code_fits : (source : Source) (program : CoreProgram) (e : IsElaborated source program) → CodeFits source program e

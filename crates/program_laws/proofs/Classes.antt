@@ -21,10 +21,11 @@ use Rattle.program_laws.proofs.Round.{not-round-itself, outer-class, round-class
 use Rattle.program_laws.proofs.Supers.{acyclic, has-no-others}
 
 pub initializers_fit : (source : Source) (program : CoreProgram) (e : IsElaborated source program) → InitializersFit source program e
-initializers_fit source program e sound c class le there bodies parts =
+initializers_fit source program e sound c class le there bodies =
+    let code = code_fits source program e sound c class le there bodies in
     all-in (InitializerFits program (class_numbered c)) class.initializers (λ i q. record {
-      locals = parts.initializers i q;
-      body = (code_fits source program e sound c class le there bodies).initializers i q;
+      locals = code.initializer_locals i q;
+      body = code.initializers i q;
     })
 
 pub classes_fit : (source : Source) (program : CoreProgram) (e : IsElaborated source program) → ClassesFit source program e
@@ -45,5 +46,5 @@ classes_fit source program e sound c class le there bodies parts implementations
       one_bridge = one-bridge-each source program e c class le there;
       inherited = h.inherited;
       implements = h.implements;
-      initializers = initializers_fit source program e sound c class le there bodies parts;
+      initializers = initializers_fit source program e sound c class le there bodies;
     }

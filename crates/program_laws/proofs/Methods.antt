@@ -14,7 +14,7 @@ use Rattle.je_classes.specs.Subtypes.{same_types}
 use Rattle.je_classes.proofs.Lists.{bool_cases, contains-here}
 use Rattle.je_fitting.specs.Classes.{SuperclassFits, none_above, one_above}
 use Rattle.je_fitting.specs.Expressions.{is_constructor, is_interface_sort, method_at}
-use Rattle.je_fitting.specs.Members.{AreVariables, BodyFits, IsOverridden, StandsFor, body_of, is_guest}
+use Rattle.je_fitting.specs.Members.{BodyFits, IsOverridden, StandsFor, body_of, is_guest}
 use Rattle.je_fitting.specs.Types.{is_variable_type, is_void}
 use Rattle.je_fitting.proofs.Booleans.{two}
 use Rattle.je_scopes.specs.Headers as headers
@@ -41,7 +41,7 @@ use Rattle.program_laws.specs.Premises.{BodiesStand, SourceIsSound, declared, na
 use Rattle.program_laws.proofs.Bodies.{code_fits, has-methods, represents}
 use Rattle.program_laws.proofs.Lists.{all-in, clash}
 use Rattle.program_laws.proofs.Supers.{acyclic, has-no-others}
-use Rattle.program_laws.proofs.Signatures.{declared-params, declared-returns}
+use Rattle.program_laws.proofs.Signatures.{declared-returns}
 
 -- ---- a constructor overrides nothing
 
@@ -120,9 +120,9 @@ module _ (source : Source) (program : CoreProgram) (e : IsElaborated source prog
       (ap (λ o. slice_get (methods_in o) at) there ∙ here) plain d n k o) refl
 
 pub methods_fit : (source : Source) (program : CoreProgram) (e : IsElaborated source program) → MethodsFit source program e
-methods_fit source program e sound c class le there bodies parts at m here =
+methods_fit source program e sound c class le there bodies at m here =
     let among = in-got class.methods at m here in
-    let known = parts.methods m among in
+    let code = code_fits source program e sound c class le there bodies in
     let signature = signature-of source program e sound c class le there m among in
     let p = declared source program e in
     let stands = represents source program e sound in
@@ -130,17 +130,15 @@ methods_fit source program e sound c class le there bodies parts at m here =
     let others = has-no-others source program e sound in
     let found : method_at program (class_numbered c) at ≡ Some m = ap (λ o. slice_get (methods_in o) at) there ∙ here in
     record {
-      params = bool_cases (λ x. is_constructor program m ≡ x → AreVariables program m.params) (is_constructor program m)
-          (λ _ builds. known.params builds)
-          (λ _ plain. declared-params p program stands has others (class_numbered c) at m found plain) refl;
+      params = code.params m among;
       result = bool_cases (λ x. is_constructor program m ≡ x → (is_void m.returns || is_variable_type program m.returns) ≡ true)
           (is_constructor program m)
           (λ _ builds. ap (λ b. b || is_variable_type program m.returns) (signature.constructor builds).result)
           (λ _ plain. declared-returns p program stands has others (class_numbered c) at m found plain) refl;
       throws = all-in (λ d. is_some (class_at program d) ≡ true) m.throws signature.throws;
       has_body = signature.has_body ∙ ap (λ g. g && not (m.flags.is_abstract || m.flags.is_native)) (sym (guest-numbered source c le));
-      locals = known.locals;
-      first_locals = (code_fits source program e sound c class le there bodies).first_locals m among;
+      locals = code.locals m among;
+      first_locals = code.first_locals m among;
       of_interface = signature.of_interface;
       constructor = signature.constructor;
       overrides = overrides-well source program e sound c class le there at m here;

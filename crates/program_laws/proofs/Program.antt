@@ -33,8 +33,7 @@ module _ (source : Source) (program : CoreProgram) (e : IsElaborated source prog
       by (a_field at) (is_field {f = f} here) =
           field_fits here (fields_fit source program e sound c class le there (stand.parts c class le there) at f here)
       by (a_method at) (is_method {m = m} here) = method_fits here
-          (methods_fit source program e sound c class le there (stand.bodies c class le there)
-          (stand.parts c class le there) at m here)
+          (methods_fit source program e sound c class le there (stand.bodies c class le there) at m here)
 
 -- ---- the library's classes
 

@@ -1,13 +1,12 @@
--- The types of the methods that a class declares are those of variables, or `void`.
-use Rattle.std.proofs.Common.{◌≡◌, ℕ, Some, sym, ap, ◌∙◌, subst, arith}
-use Rattle.std.specs.Prelude.{true, false, ◌||◌, map}
+-- The result of a method that a class declares is the type of a variable, or `void`.
+use Rattle.std.proofs.Common.{◌≡◌, ℕ, Some, ap, ◌∙◌, arith}
+use Rattle.std.specs.Prelude.{true, false, ◌||◌}
 use Rattle.je_core.specs.declared.types.Base.TheVariants as base
 use Rattle.je_core.specs.declared.types.ClassId.{ClassId}
 use Rattle.je_core.specs.declared.types.Ty.{Ty}
 use Rattle.je_core.specs.Core.{CoreMethod, CoreProgram}
 use Rattle.je_classes.proofs.Below.{or_true}
 use Rattle.je_fitting.specs.Expressions.{is_constructor, method_at}
-use Rattle.je_fitting.specs.Members.{AreVariables}
 use Rattle.je_fitting.specs.Types.{is_variable_type, is_void}
 use Rattle.je_scopes.specs.SourceTypes.{SourceType}
 use Rattle.source_types.specs.Erasure.{erased}
@@ -15,12 +14,10 @@ use Rattle.typing_laws.proofs.Nodes.{erased-plain}
 use Rattle.name_typing.specs.Program.{Program}
 use Rattle.fitting_laws.specs.Methods.{HasMethods, IsResult, a_result, no_result}
 use Rattle.fitting_laws.specs.Represented.{Represents}
-use Rattle.fitting_laws.proofs.Lists.{mapped}
 use Rattle.fitting_laws.proofs.Sound.{sound-variable}
 use Rattle.override_laws.specs.Fitting.{HasNoOthers}
 use Rattle.override_laws.proofs.Overridden.{known}
 use Rattle.override_laws.proofs.Standing.{declared-result}
-use Rattle.program_laws.proofs.Lists.{all-in}
 
 module _ (p : Program) (q : CoreProgram) (represents : Represents p q) (has : HasMethods p q) (others : HasNoOthers p q) where
   result-type : (t : SourceType) → IsResult q p.heads 254 t →
@@ -30,15 +27,6 @@ module _ (p : Program) (q : CoreProgram) (represents : Represents p q) (has : Ha
   result-type _ no_result = ap (λ (u : Ty). is_void u || is_variable_type q u) (erased-plain p.heads base.Void)
 
   module _ (c : ClassId) (at : ℕ) (m : CoreMethod) (there : method_at q c at ≡ Some m) (plain : is_constructor q m ≡ false) where
-    pub declared-params : AreVariables q m.params
-    declared-params =
-        let d = known p q has others c at m there plain in
-        subst (AreVariables q) (sym d.params)
-        (all-in (λ t. is_variable_type q t ≡ true) (map (erased p.heads) d.method.parameters) (λ t i.
-        let o = mapped (erased p.heads) d.method.parameters t i in
-        ap (is_variable_type q) (sym o.is)
-        ∙ sound-variable q p.heads represents.heads (omega arith) (has.parameters c.0 at d.method d.there o.from o.there)))
-
     pub declared-returns : (is_void m.returns || is_variable_type q m.returns) ≡ true
     declared-returns =
         let d = known p q has others c at m there plain in

@@ -33,12 +33,11 @@ module _ (source : Source) (program : CoreProgram) (e : IsElaborated source prog
   -- JLS 8.3.2, 8.6, 8.7
   abbrev pub InitializersFit : Type 0
   InitializersFit = SourceIsSound source program e → OfGuests (λ c class. BodiesStand source program e c →
-      PartsStand program (class_numbered c) class → All (InitializerFits program (class_numbered c)) class.initializers)
+      All (InitializerFits program (class_numbered c)) class.initializers)
 
   -- JLS 8.4, 8.8
   abbrev pub MethodsFit : Type 0
-  MethodsFit = SourceIsSound source program e →
-      OfGuests (λ c class. BodiesStand source program e c → PartsStand program (class_numbered c) class →
+  MethodsFit = SourceIsSound source program e → OfGuests (λ c class. BodiesStand source program e c →
       (at : ℕ) (m : CoreMethod) → slice_get class.methods at ≡ Some m →
       MethodFits program (class_numbered c) class m)
 

@@ -4,12 +4,12 @@ use Rattle.std.specs.List.{list_any}
 use Rattle.je_base.specs.declared.span.NameId.{NameId}
 use Rattle.je_ast.specs.declared.name.Identifier.{Identifier}
 use Rattle.je_core.specs.declared.types.ClassId.{ClassId}
-use Rattle.je_core.specs.Core.{Core, CoreClass, CoreField, CoreInitializer, CoreMethod, CoreProgram}
+use Rattle.je_core.specs.Core.{Core, CoreClass, CoreField, CoreProgram}
 use Rattle.je_classes.specs.Hierarchy.{class_at}
 use Rattle.je_classes.specs.Members.{In}
 use Rattle.je_fitting.specs.Classes.{Implements, InheritedFit}
-use Rattle.je_fitting.specs.Expressions.{can_be_made, is_constructor}
-use Rattle.je_fitting.specs.Members.{AreVariables, ConstantFits, local_types, results_agree}
+use Rattle.je_fitting.specs.Expressions.{can_be_made}
+use Rattle.je_fitting.specs.Members.{ConstantFits, results_agree}
 use Rattle.je_scopes.specs.Headers.{members_in, site_at}
 use Rattle.je_scopes.specs.Looks.{a_class}
 use Rattle.je_scopes.specs.Sites.{Context}
@@ -83,11 +83,6 @@ module _ (source : Source) (program : CoreProgram) (e : IsElaborated source prog
     pub unwritten : UnwrittenStands declared known program c (named_first declared c) e.first.met
         (site_at declared.source.sites c).written
 
--- the parameters of a constructor, and locals (JLS 8.4.1, 8.8.1)
-pub record TypesStand (program : CoreProgram) (m : CoreMethod) : Type 0 where
-  pub params : is_constructor program m ≡ true → AreVariables program m.params
-  pub locals : AreVariables program (local_types m.locals)
-
 -- what a class inherits (JLS 8.4.8)
 pub record InheritanceFits (program : CoreProgram) (class : ClassId) (c : CoreClass) : Type 0 where
   pub inherited : InheritedFit program class
@@ -97,8 +92,6 @@ pub record InheritanceFits (program : CoreProgram) (class : ClassId) (c : CoreCl
 pub record PartsStand (program : CoreProgram) (class : ClassId) (c : CoreClass) : Type 0 where
   pub inheritance : InheritanceFits program class c
   pub constants : (f : CoreField) (e : Core) → In c.fields f → f.constant ≡ Some e → ConstantFits program class f e
-  pub initializers : (i : CoreInitializer) → In c.initializers i → AreVariables program (local_types i.locals)
-  pub methods : (m : CoreMethod) → In c.methods m → TypesStand program m
 
 module _ (source : Source) (program : CoreProgram) (e : IsElaborated source program) where
   -- a bridge of a class from a method above it to one that it inherits
