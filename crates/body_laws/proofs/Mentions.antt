@@ -50,7 +50,7 @@ module _ (p : Program) (k : Known) (q : CoreProgram) (body : Body) (s : Scope) w
     stands (tree.super_call word id es span) h f = all-stand es h f
     stands (tree.index e i span) h f = (stands e h.0 (lefts (mentions e) (mentions i) f), stands i h.1 (rights (mentions e) (mentions i) f))
     stands (tree.new_object word t es span) h f = (f (made t) at_first h.0, all-stand es h.1 (λ m i. f m (and_further i)))
-    stands (tree.new_anonymous word t es inner span) h f = (f (made_with_body word t es) at_first tt, all-stand es h (λ m i. f m (and_further i)))
+    stands (tree.new_anonymous word t es inner span) h f = (f (made_with_body word t es) at_first tt, all-stand es h.1 (λ m i. f m (and_further i)))
     stands (tree.new_array t es dims span) h f = (subst (λ (n : ℕ). 0 < n) (same-count es) h.0, all-stand es h.1 f)
     stands (tree.new_array_of t dims e span) h f = (h.0, stands e h.1 f)
     stands (tree.array_init es span) h f = all-stand es h f

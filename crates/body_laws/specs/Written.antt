@@ -1,15 +1,25 @@
--- What the grammar gives of creations (JLS 15.9, 15.10): behind `new` stands a class without brackets, or an array that
--- has a length, or brackets before its elements.
-use Rattle.std.specs.Prelude.{◌≡◌, ℕ, ◌+◌, ◌<◌}
-use Rattle.je_ast.specs.Trees.{Catches, Expression, Expressions, ForInitializer, Groups, Labels, MaybeExpression}
-use Rattle.je_ast.specs.Trees.{Statement, Statements, Variables}
+-- What the grammar gives of trees: what stands above a class and a type parameter, and behind `new`, is a class without
+-- brackets (JLS 4.4, 8.1.4, 8.1.5, 9.1.3, 15.9), and an array that is made has a length, or brackets before its elements
+-- (JLS 15.10). Of a tree this is said of all that is in it, classes in bodies too.
+use Rattle.std.specs.Prelude.{◌≡◌, ℕ, ◌+◌, ◌<◌, All}
+use Rattle.std.specs.Option.{ForSome}
+use Rattle.je_ast.specs.Trees.{Catches, ConstructorInvocation, Declaration, Expression, Expressions, ForInitializer, Groups}
+use Rattle.je_ast.specs.Trees.{Labels, MaybeBlock, MaybeExpression, Member, Members, Statement, Statements, Variables}
 use Rattle.je_ast.specs.Trees as tree
-use Rattle.je_ast.specs.Types.{TypeName, class_type, primitive}
+use Rattle.je_ast.specs.Types.{TypeName, TypeParameter, class_type, primitive}
+use Rattle.je_scopes.specs.Headers.{declared_heads, declared_parameters}
 
 -- a class without brackets
 abbrev pub IsMade : TypeName → Type 0
 IsMade (primitive word dims span) = ⊥
 IsMade (class_type q args dims span) = dims ≡ 0
+
+-- what stands above a type parameter, if anything does
+abbrev pub BoundIsMade : TypeParameter → Type 0
+BoundIsMade q = ForSome q.bound IsMade
+
+abbrev pub HeaderIsWritten : Declaration → Type 0
+HeaderIsWritten d = All IsMade (declared_heads d) × All BoundIsMade (declared_parameters d)
 
 abbrev pub count : Expressions → ℕ
 count tree.no_expressions = 0
@@ -29,7 +39,7 @@ abbrev mutual
   IsWritten (tree.super_call word id es span) = AllAreWritten es
   IsWritten (tree.index e i span) = IsWritten e × IsWritten i
   IsWritten (tree.new_object word t es span) = IsMade t × AllAreWritten es
-  IsWritten (tree.new_anonymous word t es inner span) = AllAreWritten es
+  IsWritten (tree.new_anonymous word t es inner span) = IsMade t × AllAreWritten es × MembersAreWritten inner
   IsWritten (tree.new_array t es dims span) = (0 < count es) × AllAreWritten es
   IsWritten (tree.new_array_of t dims e span) = (0 < dims) × IsWritten e
   IsWritten (tree.array_init es span) = AllAreWritten es
@@ -45,28 +55,27 @@ abbrev mutual
   AllAreWritten tree.no_expressions = Unit {0}
   AllAreWritten (tree.more_expressions e es) = IsWritten e × AllAreWritten es
 
-abbrev pub IsWrittenIf : MaybeExpression → Type 0
-IsWrittenIf tree.no_expression = Unit {0}
-IsWrittenIf (tree.an_expression e) = IsWritten e
+  pub IsWrittenIf : MaybeExpression → Type 0
+  IsWrittenIf tree.no_expression = Unit {0}
+  IsWrittenIf (tree.an_expression e) = IsWritten e
 
-abbrev pub VariablesAreWritten : Variables → Type 0
-VariablesAreWritten tree.no_variables = Unit {0}
-VariablesAreWritten (tree.more_variables id dims e vs) = IsWrittenIf e × VariablesAreWritten vs
+  pub VariablesAreWritten : Variables → Type 0
+  VariablesAreWritten tree.no_variables = Unit {0}
+  VariablesAreWritten (tree.more_variables id dims e vs) = IsWrittenIf e × VariablesAreWritten vs
 
-abbrev pub LabelsAreWritten : Labels → Type 0
-LabelsAreWritten tree.no_labels = Unit {0}
-LabelsAreWritten (tree.case_label e ls) = IsWritten e × LabelsAreWritten ls
-LabelsAreWritten (tree.default_label word ls) = LabelsAreWritten ls
+  pub LabelsAreWritten : Labels → Type 0
+  LabelsAreWritten tree.no_labels = Unit {0}
+  LabelsAreWritten (tree.case_label e ls) = IsWritten e × LabelsAreWritten ls
+  LabelsAreWritten (tree.default_label word ls) = LabelsAreWritten ls
 
-abbrev pub StartIsWritten : ForInitializer → Type 0
-StartIsWritten (tree.locals is_final t vs) = VariablesAreWritten vs
-StartIsWritten (tree.steps es) = AllAreWritten es
+  pub StartIsWritten : ForInitializer → Type 0
+  StartIsWritten (tree.locals is_final t vs) = VariablesAreWritten vs
+  StartIsWritten (tree.steps es) = AllAreWritten es
 
-abbrev mutual
   pub StatementIsWritten : Statement → Type 0
   StatementIsWritten (tree.block opening b closing) = BodyIsWritten b
   StatementIsWritten (tree.local start is_final t vs span) = VariablesAreWritten vs
-  StatementIsWritten (tree.local_class d) = Unit {0}
+  StatementIsWritten (tree.local_class d) = DeclarationIsWritten d
   StatementIsWritten (tree.empty span) = Unit {0}
   StatementIsWritten (tree.labelled id b span) = StatementIsWritten b
   StatementIsWritten (tree.if_only word c b span) = IsWritten c × StatementIsWritten b
@@ -99,3 +108,29 @@ abbrev mutual
   CatchesAreWritten tree.no_catches = Unit {0}
   CatchesAreWritten (tree.more_catches is_final q id opening b closing cs) =
       BodyIsWritten b × CatchesAreWritten cs
+
+  pub MemberIsWritten : Member → Type 0
+  MemberIsWritten (tree.member_type d) = DeclarationIsWritten d
+  MemberIsWritten (tree.field ms t vs span) = VariablesAreWritten vs
+  MemberIsWritten (tree.method ms t id fs ts block span) = BlockIsWritten block
+  MemberIsWritten (tree.constructor ms id fs ts call opening b closing span) = CallIsWritten call × BodyIsWritten b
+  MemberIsWritten (tree.initializer word opening b closing span) = BodyIsWritten b
+
+  pub MembersAreWritten : Members → Type 0
+  MembersAreWritten tree.no_members = Unit {0}
+  MembersAreWritten (tree.more_members m ms) = MemberIsWritten m × MembersAreWritten ms
+
+  pub BlockIsWritten : MaybeBlock → Type 0
+  BlockIsWritten tree.no_block = Unit {0}
+  BlockIsWritten (tree.a_block opening b closing) = BodyIsWritten b
+
+  pub CallIsWritten : ConstructorInvocation → Type 0
+  CallIsWritten tree.implicit = Unit {0}
+  CallIsWritten (tree.explicit is_super word es) = AllAreWritten es
+
+  pub DeclarationIsWritten : Declaration → Type 0
+  DeclarationIsWritten (tree.class_declaration ms id ps above interfaces body span) =
+      HeaderIsWritten (tree.class_declaration ms id ps above interfaces body span) × MembersAreWritten body
+  DeclarationIsWritten (tree.interface_declaration ms id ps interfaces body span) =
+      HeaderIsWritten (tree.interface_declaration ms id ps interfaces body span) × MembersAreWritten body
+  DeclarationIsWritten (tree.enum_declaration ms id constants span) = Unit {0}

@@ -56,12 +56,11 @@ use Rattle.fitting_laws.proofs.Instances.{own-sound, this-fits}
 use Rattle.fitting_laws.proofs.Lists.{in-cases}
 use Rattle.fitting_laws.proofs.Passed.{passing-agree, passing-fit}
 use Rattle.body_laws.specs.Bodies.{BodyStands, IsAmong, IsInBody}
-use Rattle.body_laws.specs.Written.{AllAreWritten}
+use Rattle.body_laws.specs.Written.{AllAreWritten, CallIsWritten}
 use Rattle.body_laws.proofs.Grows.{Knows}
 use Rattle.body_laws.proofs.Values.{Used, under, valued-fits}
 use Rattle.body_laws.proofs.Walk.{any}
 use Rattle.class_fitting_laws.specs.Classes.{ClassStands, HeadCallsStand}
-use Rattle.class_fitting_laws.specs.Written.{CallIsWritten}
 
 module _ (p : Program) (k : Known) (q : CoreProgram) (c : ℕ) (round : List Frame) (superclass : Option ClassId) (represents : Represents p q) (has : HasMethods p q) (stands : ClassStands p q c round) (targets : HeadCallsStand p q c superclass) where
   -- ---- there is no object yet in the arguments

@@ -58,7 +58,7 @@ use Rattle.fitting_laws.proofs.Sound.{sound-dims, type-dims, wider}
 use Rattle.fitting_laws.proofs.Walk.{expressions_fit, used-value}
 use Rattle.body_laws.specs.Bodies.{BodyStands, HasLocals, IsInBody, same}
 use Rattle.body_laws.specs.Fitting.{AreTyped}
-use Rattle.body_laws.specs.Written.{BodyIsWritten, IsWritten}
+use Rattle.body_laws.specs.Written.{BodyIsWritten, IsWritten, IsWrittenIf, VariablesAreWritten}
 use Rattle.body_laws.proofs.Declared.{sound-value}
 use Rattle.body_laws.proofs.Grows.{Knows}
 use Rattle.body_laws.proofs.Mentions.{expression-stands}
@@ -247,15 +247,15 @@ module _ (p : Program) (k : Known) (q : CoreProgram) (c : ℕ) (round : List Fra
         (any (inner_static p k c round f id (variable_constant f.is_final f.ty from.node)))
         (λ u _. code-of from n f.is_static (variable_constant f.is_final f.ty from.node) (λ body. pass (read body))))))
 
-  field-fits-if : (at : ℕ) (id : Identifier) (e : Expression) → VariableStands p k q c round at (tree.an_expression e) → (o : Option DeclaredField) → declared_at p.classes (member c at) ≡ o → Gives Code (initialized p k c round at id e o)
-  field-fits-if at id e h None is = no-code _ refl refl
-  field-fits-if at id e h (Some f) is = initialized-fits f at id e is h.0 (λ d g. h.1 f id d is g)
+  field-fits-if : (at : ℕ) (id : Identifier) (e : Expression) → IsWritten e → VariableStands p k q c round at (tree.an_expression e) → (o : Option DeclaredField) → declared_at p.classes (member c at) ≡ o → Gives Code (initialized p k c round at id e o)
+  field-fits-if at id e lengths h None is = no-code _ refl refl
+  field-fits-if at id e lengths h (Some f) is = initialized-fits f at id e is lengths (λ d g. h f id d is g)
 
-  one-field : (at : ℕ) (id : Identifier) (e : MaybeExpression) → VariableStands p k q c round at e → Gives Code (variable p k c round at id e)
-  one-field at id tree.no_expression h = no-code _ refl refl
-  one-field at id (tree.an_expression e) h = field-fits-if at id e h (declared_at p.classes (member c at)) refl
+  one-field : (at : ℕ) (id : Identifier) (e : MaybeExpression) → IsWrittenIf e → VariableStands p k q c round at e → Gives Code (variable p k c round at id e)
+  one-field at id tree.no_expression lengths h = no-code _ refl refl
+  one-field at id (tree.an_expression e) lengths h = field-fits-if at id e lengths h (declared_at p.classes (member c at)) refl
 
-  pub fields-fit : (at : ℕ) (vs : Variables) → VariablesStand p k q c round at vs → Gives Code (variables p k c round at vs)
-  fields-fit at tree.no_variables h = no-code _ refl refl
-  fields-fit at (tree.more_variables id dims e vs) h = behind Code Code (variable p k c round at id e) _ (one-field at id e h.0)
-      (λ d f. behind Code Code (variables p k c round (suc at) vs) (λ rest. gives (followed_by d rest)) (fields-fit (suc at) vs h.1) (λ rest g. code-followed d rest f g))
+  pub fields-fit : (at : ℕ) (vs : Variables) → VariablesAreWritten vs → VariablesStand p k q c round at vs → Gives Code (variables p k c round at vs)
+  fields-fit at tree.no_variables lengths h = no-code _ refl refl
+  fields-fit at (tree.more_variables id dims e vs) lengths h = behind Code Code (variable p k c round at id e) _ (one-field at id e lengths.0 h.0)
+      (λ d f. behind Code Code (variables p k c round (suc at) vs) (λ rest. gives (followed_by d rest)) (fields-fit (suc at) vs lengths.1 h.1) (λ rest g. code-followed d rest f g))

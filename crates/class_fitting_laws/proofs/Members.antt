@@ -44,13 +44,13 @@ use Rattle.fitting_laws.proofs.Gives.{behind}
 use Rattle.fitting_laws.proofs.Sound.{wider}
 use Rattle.body_laws.specs.Bodies.{BodyStands, IsInBody, Returns}
 use Rattle.body_laws.specs.Fitting.{DoneFits}
-use Rattle.body_laws.specs.Written.{BodyIsWritten}
+use Rattle.body_laws.specs.Written.{BlockIsWritten, BodyIsWritten, CallIsWritten, MemberIsWritten, MembersAreWritten}
 use Rattle.body_laws.proofs.Grows.{Knows, before, grows-met, met-there, on}
 use Rattle.body_laws.proofs.Switches.{parts-fit}
 use Rattle.body_laws.proofs.Walk.{Block, block-fits, walk-block}
 use Rattle.class_fitting_laws.specs.Classes.{ClassStands, HeadCallsStand}
 use Rattle.class_fitting_laws.specs.Laws.{MembersFit}
-use Rattle.class_fitting_laws.specs.Written.{BlockIsWritten, CallIsWritten, MemberStands, MembersStand, MethodsStand}
+use Rattle.class_fitting_laws.specs.Written.{MemberStands, MembersStand, MethodsStand}
 use Rattle.class_fitting_laws.proofs.Heads.{Headed, Heads, heads-fit, no_head, one_head}
 use Rattle.class_fitting_laws.proofs.Initializers.{Code, by-given, code-followed, fields-fit, for-each, initializer-fits, no-code, own-locals}
 use Rattle.class_fitting_laws.proofs.Methods.{ParametersStand, body-with, method-fits, one-method, only-method, parameters-stand, same-some}
@@ -180,18 +180,18 @@ module _ (p : Program) (k : Known) (q : CoreProgram) (c : ℕ) (round : List Fra
   constructor-if id at fs call opening ss closing None e calls lengths f = no-code p k q c round superclass represents has stands _ refl refl
   constructor-if id at fs call opening ss closing (Some m) e calls lengths f = let g = f m refl in constructor-fits id at m e g.1 g.2 g.3 fs call opening ss closing calls lengths g.0 (λ d x. (g.4 d x, g.5 d x))
 
-  one-fits : (fields methods : ℕ) (m : Member) → MemberStands p k q c round superclass fields methods m → Gives Finished (one_member p k c round fields methods m)
-  one-fits fields methods (tree.member_type d) h = no-code p k q c round superclass represents has stands _ refl refl
-  one-fits fields methods (tree.field ms t vs span) h = fields-fit p k q c round superclass represents has stands fields vs h
-  one-fits fields methods (tree.method ms t id fs ts block span) h = method-if id methods fs block (slice_get (methods_in (slice_get p.classes c)) methods) refl h.0 h.1
-  one-fits fields methods (tree.constructor ms id fs ts call opening ss closing span) h = constructor-if id methods fs call opening ss closing (slice_get (methods_in (slice_get p.classes c)) methods) refl h.0 h.1 h.2
-  one-fits fields methods (tree.initializer word opening ss closing span) h = initializer-fits p k q c round superclass represents has stands word fields opening closing ss h.0 h.1
+  one-fits : (fields methods : ℕ) (m : Member) → MemberIsWritten m → MemberStands p k q c round superclass fields methods m → Gives Finished (one_member p k c round fields methods m)
+  one-fits fields methods (tree.member_type d) lengths h = no-code p k q c round superclass represents has stands _ refl refl
+  one-fits fields methods (tree.field ms t vs span) lengths h = fields-fit p k q c round superclass represents has stands fields vs lengths h
+  one-fits fields methods (tree.method ms t id fs ts block span) lengths h = method-if id methods fs block (slice_get (methods_in (slice_get p.classes c)) methods) refl lengths h
+  one-fits fields methods (tree.constructor ms id fs ts call opening ss closing span) lengths h = constructor-if id methods fs call opening ss closing (slice_get (methods_in (slice_get p.classes c)) methods) refl lengths.0 lengths.1 h
+  one-fits fields methods (tree.initializer word opening ss closing span) lengths h = initializer-fits p k q c round superclass represents has stands word fields opening closing ss lengths h
 
-  all-fit : (fields methods : ℕ) (ms : Members) → MembersStand p k q c round superclass fields methods ms → Gives Finished (members_from p k c round fields methods ms)
-  all-fit fields methods tree.no_members h = no-code p k q c round superclass represents has stands _ refl refl
-  all-fit fields methods (tree.more_members m ms) h = behind Finished Finished (one_member p k c round fields methods m) _ (one-fits fields methods m h.0)
-      (λ d f. behind Finished Finished (members_from p k c round (fields_behind fields m) (methods_behind methods m) ms) (λ rest. gives (followed_by d rest)) (all-fit (fields_behind fields m) (methods_behind methods m) ms h.1)
+  all-fit : (fields methods : ℕ) (ms : Members) → MembersAreWritten ms → MembersStand p k q c round superclass fields methods ms → Gives Finished (members_from p k c round fields methods ms)
+  all-fit fields methods tree.no_members lengths h = no-code p k q c round superclass represents has stands _ refl refl
+  all-fit fields methods (tree.more_members m ms) lengths h = behind Finished Finished (one_member p k c round fields methods m) _ (one-fits fields methods m lengths.0 h.0)
+      (λ d f. behind Finished Finished (members_from p k c round (fields_behind fields m) (methods_behind methods m) ms) (λ rest. gives (followed_by d rest)) (all-fit (fields_behind fields m) (methods_behind methods m) ms lengths.1 h.1)
       (λ rest g. code-followed p k q c round superclass represents has stands d rest f g))
 
 pub members_fit : MembersFit
-members_fit p k q c round superclass represents has stands fields methods ms h = all-fit p k q c round superclass represents has stands fields methods ms h
+members_fit p k q c round superclass represents has stands fields methods ms lengths h = all-fit p k q c round superclass represents has stands fields methods ms lengths h

@@ -48,14 +48,14 @@ use Rattle.fitting_laws.proofs.Lists.{in-one}
 use Rattle.fitting_laws.proofs.Sound.{sound-variable, wider}
 use Rattle.body_laws.specs.Bodies.{BodyStands, IsInBody, Returns}
 use Rattle.body_laws.specs.Fitting.{AreTyped, DoneFits}
-use Rattle.body_laws.specs.Written.{BodyIsWritten}
+use Rattle.body_laws.specs.Written.{BlockIsWritten, BodyIsWritten}
 use Rattle.body_laws.proofs.Grows.{Grows, Knows, before, grows-not, grows-number, number-there, on}
 use Rattle.body_laws.proofs.Scopes.{with-local}
 use Rattle.body_laws.proofs.Typed.{typed-on}
 use Rattle.body_laws.proofs.Walk.{Block, block-fits, walk-block}
 use Rattle.class_fitting_laws.specs.Classes.{ClassStands}
 use Rattle.class_fitting_laws.specs.Fitting.{CodeFits, MethodCodeFits}
-use Rattle.class_fitting_laws.specs.Written.{BlockIsWritten, MethodsStand}
+use Rattle.class_fitting_laws.specs.Written.{MethodsStand}
 use Rattle.class_fitting_laws.proofs.Initializers.{Code, by-given, for-each, no-code, own-locals, typed-locals}
 use Rattle.class_fitting_laws.proofs.Scopes.{begins}
 

@@ -45,6 +45,7 @@ use Rattle.body_laws.proofs.Walk.{any}
 use Rattle.class_fitting_laws.specs.Classes.{ClassStands}
 use Rattle.class_fitting_laws.specs.Laws.{ClassMembersFit}
 use Rattle.class_fitting_laws.specs.Unwritten.{EnumStands, IsHandedTo, UnwrittenStands}
+use Rattle.body_laws.specs.Written.{MembersAreWritten}
 use Rattle.class_fitting_laws.specs.Written.{MembersStand}
 use Rattle.class_fitting_laws.proofs.Enums.{constants-made, methods-fit}
 use Rattle.class_fitting_laws.proofs.Initializers.{Code, code-followed, no-code}
@@ -162,11 +163,11 @@ module _ (p : Program) (k : Known) (q : CoreProgram) (c : ℕ) (round : List Fra
       (λ _ f. enum-fits (constants_in (site_at p.source.sites c).written) (h f)) (λ _ f. default-if (not (is_interface_sort (site_at p.source.sites c).sort) && is_without_constructor p k c round)) refl
   unwritten-fits met (behind_new own of written) e h = anonymous-fits met own of written h (find (stands_at c) met) refl
 
-  members : (met : List Met) (hidden : ℕ) → MembersStand p k q c round superclass hidden 0 (members_in (site_at p.source.sites c).written) → UnwrittenStands p k q c superclass met (site_at p.source.sites c).written → Gives Finished (class_members p k c round met hidden)
+  members : (met : List Met) (hidden : ℕ) → MembersAreWritten (members_in (site_at p.source.sites c).written) → MembersStand p k q c round superclass hidden 0 (members_in (site_at p.source.sites c).written) → UnwrittenStands p k q c superclass met (site_at p.source.sites c).written → Gives Finished (class_members p k c round met hidden)
   unfolding class_members
-  members met hidden h u = behind Finished Finished (members_from p k c round hidden 0 (members_in (site_at p.source.sites c).written)) _ (members_fit p k q c round superclass represents has stands hidden 0 (members_in (site_at p.source.sites c).written) h)
+  members met hidden lengths h u = behind Finished Finished (members_from p k c round hidden 0 (members_in (site_at p.source.sites c).written)) _ (members_fit p k q c round superclass represents has stands hidden 0 (members_in (site_at p.source.sites c).written) lengths h)
       (λ d f. behind Finished Finished (unwritten p k c round met (site_at p.source.sites c).written) _ (unwritten-fits met (site_at p.source.sites c).written refl u)
       (λ further g. behind (λ x. Unit {0}) Finished (no_cycle d.calls) (λ x. gives (followed_by d further)) (any (no_cycle d.calls)) (λ x _. code-followed p k q c round superclass represents has stands d further f g)))
 
 pub class_members_fit : ClassMembersFit
-class_members_fit p k q c round superclass represents has stands met hidden h u = members p k q c round superclass represents has stands met hidden h u
+class_members_fit p k q c round superclass represents has stands met hidden lengths h u = members p k q c round superclass represents has stands met hidden lengths h u

@@ -1,12 +1,11 @@
 -- What is known of the members that a class writes (JLS 8.2): methods and constructors are declared as they are
--- written, creations are as the grammar gives them, and what is met in a body stands there.
+-- written, and what is met in a body stands there.
 use Rattle.std.specs.Prelude.{◌≡◌, ℕ, suc, ◌≤◌, Bool, true, false, length, List, [], Option, None, Some, slice_get}
 use Rattle.je_core.specs.declared.types.Base.TheVariants as base
 use Rattle.je_core.specs.declared.types.ClassId.{ClassId}
 use Rattle.je_core.specs.Core.{CoreInitializer, CoreMethod, CoreProgram}
 use Rattle.je_ast.specs.declared.name.Identifier.{Identifier}
-use Rattle.je_ast.specs.Trees.{ConstructorInvocation, Expression, MaybeBlock, MaybeExpression, Member, Members}
-use Rattle.je_ast.specs.Trees.{Variables}
+use Rattle.je_ast.specs.Trees.{Expression, MaybeExpression, Member, Members, Variables}
 use Rattle.je_ast.specs.Trees as tree
 use Rattle.je_ast.specs.Types.{FormalParameter}
 use Rattle.je_classes.specs.Members.{In}
@@ -28,16 +27,7 @@ use Rattle.class_typing.specs.Constructors.{in_arguments}
 use Rattle.class_typing.specs.Members.{MembersDone, field_scope, fields_behind, initialized, initializer_scope}
 use Rattle.class_typing.specs.Members.{methods_behind, one_member, scope_in}
 use Rattle.body_laws.specs.Bodies.{BodyStands}
-use Rattle.body_laws.specs.Written.{AllAreWritten, BodyIsWritten, IsWritten}
 use Rattle.class_fitting_laws.specs.Classes.{HeadCallsStand}
-
-abbrev pub BlockIsWritten : MaybeBlock → Type 0
-BlockIsWritten tree.no_block = Unit {0}
-BlockIsWritten (tree.a_block opening b closing) = BodyIsWritten b
-
-abbrev pub CallIsWritten : ConstructorInvocation → Type 0
-CallIsWritten tree.implicit = Unit {0}
-CallIsWritten (tree.explicit is_super word es) = AllAreWritten es
 
 -- where the initializer of a field runs
 abbrev pub field_body : ℕ → Bool → Body
@@ -68,9 +58,9 @@ module _ (p : Program) (k : Known) (program : CoreProgram) (c : ℕ) (round : Li
 
   abbrev pub VariableStands : ℕ → MaybeExpression → Type 0
   VariableStands at tree.no_expression = Unit {0}
-  VariableStands at (tree.an_expression e) = IsWritten e × ((f : DeclaredField) (id : Identifier) (d : MembersDone) →
+  VariableStands at (tree.an_expression e) = (f : DeclaredField) (id : Identifier) (d : MembersDone) →
       field_at p.classes (member c at) ≡ Some f → initialized p k c round at id e (Some f) ≡ gives d →
-      FieldBodyStands at e f.is_static)
+      FieldBodyStands at e f.is_static
 
   abbrev pub VariablesStand : ℕ → Variables → Type 0
   VariablesStand at tree.no_variables = Unit {0}
@@ -104,14 +94,12 @@ module _ (p : Program) (k : Known) (program : CoreProgram) (c : ℕ) (round : Li
   abbrev pub MemberStands : Option ClassId → ℕ → ℕ → Member → Type 0
   MemberStands superclass fields at (tree.member_type d) = Unit {0}
   MemberStands superclass fields at (tree.field ms t vs span) = VariablesStand fields vs
-  MemberStands superclass fields at (tree.method ms t id fs ts block span) = BlockIsWritten block
-      × OfDeclared at (MethodStands fields at (tree.method ms t id fs ts block span) fs)
-  MemberStands superclass fields at (tree.constructor ms id fs ts call opening b closing span) = CallIsWritten call
-      × BodyIsWritten b
-      × OfDeclared at
+  MemberStands superclass fields at (tree.method ms t id fs ts block span) =
+      OfDeclared at (MethodStands fields at (tree.method ms t id fs ts block span) fs)
+  MemberStands superclass fields at (tree.constructor ms id fs ts call opening b closing span) = OfDeclared at
       (ConstructorStands superclass fields at (tree.constructor ms id fs ts call opening b closing span) fs)
-  MemberStands superclass fields at (tree.initializer word opening b closing span) = BodyIsWritten b
-      × OfDone fields at (tree.initializer word opening b closing span)
+  MemberStands superclass fields at (tree.initializer word opening b closing span) =
+      OfDone fields at (tree.initializer word opening b closing span)
       (InitializersStand (initializer_scope p k c round word fields))
 
   abbrev pub MembersStand : Option ClassId → ℕ → ℕ → Members → Type 0
