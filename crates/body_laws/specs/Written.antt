@@ -1,8 +1,7 @@
 -- What the grammar gives of trees: what stands above a class and a type parameter, and behind `new`, is a class without
 -- brackets (JLS 4.4, 8.1.4, 8.1.5, 9.1.3, 15.9), and an array that is made has a length, or brackets before its elements
 -- (JLS 15.10). Of a tree this is said of all that is in it, classes in bodies too.
-use Rattle.std.specs.Prelude.{◌≡◌, ℕ, ◌+◌, ◌<◌, All}
-use Rattle.std.specs.Option.{ForSome}
+use Rattle.std.specs.Prelude.{◌≡◌, ℕ, ◌+◌, ◌<◌, All, IfSome}
 use Rattle.je_ast.specs.Trees.{Catches, ConstructorInvocation, Declaration, Expression, Expressions, ForInitializer, Groups}
 use Rattle.je_ast.specs.Trees.{Labels, MaybeBlock, MaybeExpression, Member, Members, Statement, Statements, Variables}
 use Rattle.je_ast.specs.Trees as tree
@@ -16,7 +15,7 @@ IsMade (class_type q args dims span) = dims ≡ 0
 
 -- what stands above a type parameter, if anything does
 abbrev pub BoundIsMade : TypeParameter → Type 0
-BoundIsMade q = ForSome q.bound IsMade
+BoundIsMade q = IfSome q.bound IsMade
 
 abbrev pub HeaderIsWritten : Declaration → Type 0
 HeaderIsWritten d = All IsMade (declared_heads d) × All BoundIsMade (declared_parameters d)

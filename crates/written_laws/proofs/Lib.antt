@@ -1,0 +1,4 @@
+pub mod Spelled
+pub mod Renumbered
+pub mod Places
+pub mod Sources
