@@ -1,9 +1,10 @@
--- What the grammar gives of trees: what stands above a class and a type parameter, and behind `new`, is a class without
--- brackets (JLS 4.4, 8.1.4, 8.1.5, 9.1.3, 15.9), and an array that is made has a length, or brackets before its elements
--- (JLS 15.10). Of a tree this is said of all that is in it, classes in bodies too.
+-- What the grammar gives of trees: above a class and a type parameter, and behind `new`, stands a class without brackets
+-- (JLS 4.4, 8.1.4, 8.1.5, 9.1.3, 15.9), and an array that is made has a length, or brackets before its elements
+-- (JLS 15.10). It is said of all that is in a tree, classes in bodies too.
 use Rattle.std.specs.Prelude.{◌≡◌, ℕ, ◌+◌, ◌<◌, All, IfSome}
-use Rattle.je_ast.specs.Trees.{Catches, ConstructorInvocation, Declaration, Expression, Expressions, ForInitializer, Groups}
-use Rattle.je_ast.specs.Trees.{Labels, MaybeBlock, MaybeExpression, Member, Members, Statement, Statements, Variables}
+use Rattle.je_ast.specs.Trees.{Catches, ConstructorInvocation, Declaration, Expression, Expressions, ForInitializer}
+use Rattle.je_ast.specs.Trees.{Groups, Labels, MaybeBlock, MaybeExpression, Member, Members, Statement, Statements}
+use Rattle.je_ast.specs.Trees.{Variables}
 use Rattle.je_ast.specs.Trees as tree
 use Rattle.je_ast.specs.Types.{TypeName, TypeParameter, class_type, primitive}
 use Rattle.je_scopes.specs.Headers.{declared_heads, declared_parameters}

@@ -47,11 +47,12 @@ module _ (source : Source) (program : CoreProgram) (e : IsElaborated source prog
     }
 
     done-fits : members.CodeFits program (class_numbered c) (named_first (declared source program e) c) made.done
+    unfolding plain_program
     done-fits =
         subst (Gives (members.CodeFits program (class_numbered c) (named_first (declared source program e) c))) made.walked
         (class_members_fit (declared source program e) (known source program e) program c (round source program e c)
         (named_first (declared source program e) c) represents has-methods class-stands e.first.met (hidden_count source (captured_by source e.first) c)
-        bodies.written bodies.unwritten)
+        (sound.members c) bodies.written bodies.unwritten)
 
     initializer-fits : (i : CoreInitializer) → In class.initializers i →
         members.InitializerCodeFits program (class_numbered c) i

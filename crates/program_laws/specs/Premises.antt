@@ -28,6 +28,7 @@ use Rattle.class_typing.specs.Bridges.{bridges}
 use Rattle.class_typing.specs.Elaboration.{hidden_count}
 use Rattle.class_typing.specs.Places.{member_frame, round_met}
 use Rattle.class_typing.specs.Programs.{library_count}
+use Rattle.body_laws.specs.Written.{MembersAreWritten}
 use Rattle.class_fitting_laws.specs.Unwritten.{UnwrittenStands}
 use Rattle.class_fitting_laws.specs.Written.{MembersStand}
 use Rattle.elaborated_laws.specs.Elaborated.{IsElaborated, captured_by, program_of, world_of}
@@ -53,12 +54,13 @@ module _ (source : Source) (program : CoreProgram) (e : IsElaborated source prog
 
   -- ---- of the whole source
 
-  -- sites, words, names, headers and types
+  -- sites, words, names, headers, members and types
   pub record SourceIsSound : Type 0 where
     pub sites : HasSites source
     pub words : HasWords source
     pub names : NamesAreGood source
     pub written : HeadersAreWritten source
+    pub members : (c : ℕ) → MembersAreWritten (members_in (site_at source.sites c).written)
     pub anonymous : NoneIsBelowVariables source
     pub interfaces : InterfacesAreStatic source
     pub types : TypesAreSound declared program

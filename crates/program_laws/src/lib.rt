@@ -2,7 +2,8 @@
 //! (`specs/Laws.antt`).
 //!
 //! What the laws ask beside that has a record each (`specs/Premises.antt`), which is to be met where an elaboration
-//! cites the laws. `SourceIsSound` puts together the premises of `elaborated_laws` and `judged_laws`. Of
+//! cites the laws. `SourceIsSound` puts together the premises of `elaborated_laws` and `judged_laws`, and says that
+//! members are as the grammar gives them; of files, `written_laws` gives that, and the same of headers. Of
 //! `BodiesStand`, scopes give `scope` (`scope_laws`), and the walk over bodies gives what is met in them
 //! (`body_typing`). Of `PartsStand`, headers and signatures give what it asks of headers, constants and methods
 //! (`signature_typing`, `override_laws`), and the walk over bodies the types of locals. `ImplementationsAgree` asks

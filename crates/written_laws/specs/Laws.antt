@@ -1,5 +1,5 @@
--- What files are read as is written as the grammar has it (JLS 18): trees that tokens spell, the units of files, and the
--- classes of their source, those in bodies among them.
+-- What files are read as is written as the grammar has it (JLS 18): trees that tokens spell, the units of files, and
+-- the classes of their source, those in bodies among them.
 use Rattle.std.specs.Prelude.{ℕ, List, All}
 use Rattle.je_token.specs.declared.token.Token.{Token}
 use Rattle.je_ast.specs.Trees.{CompilationUnit, Declaration, Expression, Member, Statement}
@@ -7,7 +7,8 @@ use Rattle.je_grammar.specs.Grammar.{Spells, SpellsBlockStatement, SpellsDeclara
 use Rattle.je_scopes.specs.Headers.{members_in, site_at}
 use Rattle.je_scopes.specs.Sites.{sites}
 use Rattle.je_scopes.specs.Source.{source}
-use Rattle.body_laws.specs.Written.{DeclarationIsWritten, IsWritten, MemberIsWritten, MembersAreWritten, StatementIsWritten}
+use Rattle.body_laws.specs.Written.{DeclarationIsWritten, IsWritten, MemberIsWritten, MembersAreWritten}
+use Rattle.body_laws.specs.Written.{StatementIsWritten}
 use Rattle.judged_laws.specs.Written.{HeadersAreWritten}
 use Rattle.source_units.specs.Units.{AreUnitsOf}
 

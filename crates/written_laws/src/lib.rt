@@ -1,5 +1,5 @@
-//! What files are read as is written as the grammar has it (`specs/Laws.antt`): behind `new`, and above classes and type
-//! parameters, stand classes without brackets, and arrays that are made have lengths.
+//! What files are read as is written as the grammar has it (`specs/Laws.antt`): behind `new`, and above classes and
+//! type parameters, stand classes without brackets, and arrays that are made have lengths.
 //!
 //! The crate has no code: each function states a law of `je_grammar`, `source_units` and `je_scopes`. The proofs go by
 //! the derivations of the grammar (`proofs/Spelled.antt`), the trees with other numbers for their names
